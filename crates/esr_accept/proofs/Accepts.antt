@@ -3,7 +3,7 @@ use Rattle.std.proofs.Common.{◌≡◌, ◌⊎◌, ℕ, suc, ◌+◌, ◌<◌, 
 use Rattle.std.specs.Prelude.{not, nat_lt}
 use Rattle.std.specs.FinMap.{FinMap}
 use Rattle.std.specs.FinMap as fin
-use Rattle.std.proofs.lemmas.Bool.{cases_lt}
+use Rattle.std.proofs.lemmas.Bool.{cases_lt, not-false}
 use Rattle.std.proofs.lemmas.Bool.Decides.{Decides-ltb}
 use Rattle.esr_record.specs.declared.op.Making.{Making}
 use Rattle.esr_model.specs.Values.{Bytes, Has, RootSnap, RootData}
@@ -19,6 +19,7 @@ use Rattle.esr_core.specs.Tracked.{Named}
 use Rattle.esr_names.specs.declared.index_ref.IndexRef.{IndexRef as CodeRef}
 use Rattle.std.proofs.lemmas.List.{length-map}
 use Rattle.std.proofs.lemmas.Option.{same_Some, none-some}
+use Rattle.esr_core.specs.Laws.SnapshotOps.{neither}
 use Rattle.esr_formats.specs.Refs.{ref_of_code, AreApart}
 use Rattle.esr_ops.specs.Asked.{IsAskable}
 use Rattle.esr_formats.specs.Formats.{formats}
@@ -31,11 +32,7 @@ use Rattle.esr_accept.specs.Asking.{open_cleanup, snap_uuid, op_uuid, name_user,
 use Rattle.esr_ops.specs.Entries.{get_from, find-member}
 use Rattle.esr_ops.specs.Numbers.{found_member, entries_from}
 use Rattle.esr_accept.proofs.Drawn.{new-same, refs-same, refs_apart, length-refs_by}
-use Rattle.esr_accept.proofs.Finds.{len_from, found, missed, same_true, same_false, neither, either_some, are_known}
-
-pub not-false : (b : Bool) → not b ≡ false → b ≡ true
-not-false true e = refl
-not-false false e = sym e
+use Rattle.esr_accept.proofs.Finds.{len_from, found, missed, same_true, same_false, either_some, are_known}
 
 -- the lists that a plan is of
 pub record IsListed (ops : List (ℕ × Op)) (deletes : List (ℕ × Deletion)) (p : Plan) : Type 0 where
@@ -90,7 +87,8 @@ module _ (ops : List (ℕ × Op)) (deletes : List (ℕ × Deletion)) (p : Plan) 
   pub unused : (name : Bytes) → name_user root ops name ≡ None → IsUnused w name
   unused name e uuid (inl (s, there, name_is, uuid_is)) =
       let none = (neither (snap_uuid root.snapshots name) (op_uuid ops name) e).0 in
-      same_false s.name name (missed (λ (xs : List RootSnap). snap_uuid xs name) (λ (x : RootSnap). same_bytes x.name name) (λ (x : RootSnap). x.uuid) refl (λ x xs. refl) root.snapshots s none (subst (λ (z : RootData). Has z.snapshots s) is.root_is there)) name_is
+      same_false s.name name
+      (missed (λ (xs : List RootSnap). snap_uuid xs name) (λ (x : RootSnap). same_bytes x.name name) (λ (x : RootSnap). x.uuid) refl (λ x xs. refl) root.snapshots s none (subst (λ (z : RootData). Has z.snapshots s) is.root_is there)) name_is
   unused name e uuid (inr (o, op, got, name_is, uuid_is)) =
       let none = (neither (snap_uuid root.snapshots name) (op_uuid ops name) e).1 in
       same_false op.name name (missed (λ (xs : List (ℕ × Op)). op_uuid xs name) (λ (x : ℕ × Op). same_bytes x.1.name name) (λ (x : ℕ × Op). x.1.uuid) refl (λ x xs. refl) ops (o, op) none (op_listed o op got)) name_is
@@ -138,7 +136,8 @@ module _ (ops : List (ℕ × Op)) (deletes : List (ℕ × Deletion)) (p : Plan) 
 
     op_is : (m : Making) → Makes m → op_begun m indices ≡ asked_op w name indices moment
     op_is m makes =
-        let are : map ref_of_code m.indices ≡ refs_from w (suc w.next_id) indices = makes.indices_are ∙ ap (λ (n : ℕ). refs_by (known_in root ops) (suc n) indices) (sym is.next_is) ∙ sym (refs-same (known_in root ops) w knows (suc w.next_id) indices) in
+        let are : map ref_of_code m.indices ≡ refs_from w (suc w.next_id) indices =
+        makes.indices_are ∙ ap (λ (n : ℕ). refs_by (known_in root ops) (suc n) indices) (sym is.next_is) ∙ sym (refs-same (known_in root ops) w knows (suc w.next_id) indices) in
         λ j. record {
           name = makes.name_is j;
           uuid = (makes.uuid_is ∙ sym is.next_is) j;

@@ -4,6 +4,7 @@ use Rattle.std.specs.List.{AllByRecursion}
 use Rattle.std.proofs.lemmas.List.{map-append, length-map}
 use Rattle.esr_names.specs.declared.ids.Id.{Id}
 use Rattle.esr_names.specs.declared.index_ref.IndexRef.{IndexRef as CodeRef}
+use Rattle.esr_root.specs.Lists.{all_append}
 use Rattle.esr_record.specs.declared.op.Making.{Making}
 use Rattle.esr_record.specs.Op.{IsMaking}
 use Rattle.esr_model.specs.Values.{Bytes}
@@ -21,10 +22,6 @@ use Rattle.esr_ops.specs.Lists.{all_member}
 
 -- ---- what holds of each
 
-all_append : {A : Type 0} (P : A → Type 0) (xs ys : List A) → AllByRecursion P xs → AllByRecursion P ys → AllByRecursion P (xs ++ ys)
-all_append P [] ys p q = q
-all_append P (x ∷ xs) ys p q = (p.0, all_append P xs ys p.1 q)
-
 module _ (P : OpenShard → Type 0) where
   all_from : (at : ℕ) (index : Id) (first n : ℕ) → ((k : ℕ) → k < first + n → P (record { at = at; shard = record { index = index; number = k }; state = states.Pending })) → AllByRecursion P (shards_from at index first n)
   all_from at index first zero h = tt
@@ -39,7 +36,8 @@ module _ (P : OpenShard → Type 0) where
 
 pub begun_open : (m : Making) (places : List Bytes) (shards : List OpenShard) → IsMaking m → AreApart (map ref_of_code m.indices) → length places ≡ length m.indices → shards ≡ shards_of 0 m.indices → IsOpenOp m places shards
 begun_open m places shards valid apart placed is =
-    let pending : AllByRecursion (λ (s : OpenShard). s.state ≡ states.Pending) shards = subst (AllByRecursion (λ (s : OpenShard). s.state ≡ states.Pending)) (sym is) (all_of (λ (s : OpenShard). s.state ≡ states.Pending) 0 m.indices apart (λ j k index lt few. refl)) in
+    let pending : AllByRecursion (λ (s : OpenShard). s.state ≡ states.Pending) shards =
+    subst (AllByRecursion (λ (s : OpenShard). s.state ≡ states.Pending)) (sym is) (all_of (λ (s : OpenShard). s.state ≡ states.Pending) 0 m.indices apart (λ j k index lt few. refl)) in
     record {
       making = valid;
       placed = placed;
@@ -69,7 +67,8 @@ module _ (refs : List CodeRef) (places : List Bytes) where
       let here : at + 0 ≡ at = omega arith in
       map-append (work_of_shard refs places) (shards_from at r.id 0 r.shards) (shards_of (suc at) rs)
       ∙ (λ j. works-from at r a (ap (slice_get refs) (sym here) ∙ are 0) (ap (slice_get places) (sym here) ∙ at_places 0) 0 r.shards j
-      ++ works-of (suc at) rs asked (omega arith) (λ i. let past : suc at + i ≡ at + suc i = omega arith in ap (slice_get refs) past ∙ are (suc i)) (λ i. let past : suc at + i ≡ at + suc i = omega arith in ap (slice_get places) past ∙ at_places (suc i)) j)
+      ++ works-of (suc at) rs asked (omega arith) (λ i. let past : suc at + i ≡ at + suc i = omega arith in ap (slice_get refs) past ∙ are (suc i))
+      (λ i. let past : suc at + i ≡ at + suc i = omega arith in ap (slice_get places) past ∙ at_places (suc i)) j)
 
 pub works-begun : (refs : List CodeRef) (asked : List CodeAsked) (places : List Bytes) (shards : List OpenShard) → length refs ≡ length asked → places ≡ map (λ (a : CodeAsked). a.place) asked → shards ≡ shards_of 0 refs
     → map (work_of_shard refs places) shards ≡ all_pending (map asked_index_of asked) (map ref_of_code refs)

@@ -37,7 +37,8 @@ none_aborted : (seats : TicketMaps) (ops : List (ℕ × Op)) → map (aborted_by
 none_aborted seats [] = refl
 none_aborted seats (e ∷ ops) = ap (λ (es : List (ℕ × Op)). e ∷ es) (none_aborted seats ops)
 
-module _ (ops : List (ℕ × Op)) (deletes : List (ℕ × Deletion)) (completed : List ℕ) (seats : TicketMaps) (next : ℕ) (restores : List (ℕ × RestorePlan)) (now : Plan) (view : plan_with ops deletes completed seats next restores ≡ now) (h : IsProgress ops deletes next restores) where
+module _ (ops : List (ℕ × Op)) (deletes : List (ℕ × Deletion)) (completed : List ℕ) (seats : TicketMaps) (next : ℕ) (restores : List (ℕ × RestorePlan))
+    (now : Plan) (view : plan_with ops deletes completed seats next restores ≡ now) (h : IsProgress ops deletes next restores) where
   pub cleanup_keeps : (new_ops : List (ℕ × Op)) → new_ops ≡ ops → (new_deletes : List (ℕ × Deletion)) → new_deletes ≡ deletes ++ (next, cleanup_begun) ∷ [] → next < 2 ^ 62
       → IsProgress new_ops new_deletes (next + 1) (fin.entries now.restores)
   cleanup_keeps new_ops ops_are new_deletes deletes_are room =

@@ -1,8 +1,8 @@
 -- Which rule refuses a clone, in a world of which the list tells.
-use Rattle.std.proofs.Common.{◌≡◌, ℕ, suc, ◌<◌, ◌≤◌, Bool, true, false, true≢false, cond, eqb, List, [], ◌∷◌, Option, Some, None, option_map, map, take, drop, refl, sym, ap, ◌∙◌, subst, inl, inr, eq-eqb}
+use Rattle.std.proofs.Common.{◌≡◌, ℕ, suc, ◌<◌, ◌≤◌, true, false, true≢false, List, [], ◌∷◌, Option, Some, None, option_map, map, take, drop, refl, sym, ap, ◌∙◌, subst, inl, inr}
 use Rattle.std.specs.Prelude.{not, nat_lt, ◌||◌}
 use Rattle.std.specs.List.{list_any, position}
-use Rattle.std.proofs.lemmas.Bool.{cases_lt, and_parts, and_from, not-true}
+use Rattle.std.proofs.lemmas.Bool.{cases_lt, and_parts, and_from, not-true, not-false}
 use Rattle.std.proofs.lemmas.Bool.Decides.{Decides-ltb}
 use Rattle.std.proofs.lemmas.Option.{same_Some, none-some}
 use Rattle.esr_names.specs.declared.ids.Id.{Id}
@@ -13,6 +13,8 @@ use Rattle.esr_model.specs.Shelf.{names_uuid}
 use Rattle.esr_model.specs.Uploads.{same_bytes}
 use Rattle.esr_core.specs.World.{World, Op, Deletion}
 use Rattle.esr_core.specs.Allowed.{IsListed, HasIndexNamed, HaveIndices, IsFirstMissing, MayName, MayClone}
+use Rattle.esr_core.specs.Laws.Tests.{clash}
+use Rattle.esr_core.specs.Laws.DeleteRoots.{has_names, names_has}
 use Rattle.esr_formats.specs.Ids.{number_of}
 use Rattle.esr_formats.specs.Roots.{root_index_of}
 use Rattle.esr_ops.specs.declared.refusal.Refusal.{Refusal}
@@ -20,32 +22,14 @@ use Rattle.esr_ops.specs.Plan.{Plan, RestorePlan, IsAskedIn, TicketMaps}
 use Rattle.esr_ops.specs.Inside.{plan_with, IsProgress}
 use Rattle.esr_accept.specs.Asking.{open_cleanup, snap_uuid, op_uuid, name_user, deleting, is_index_of, lacks_index, name_refusal, source_refusal}
 use Rattle.esr_accept.specs.Accepting.{IsCloneRefused}
-use Rattle.esr_ops.specs.Entries.{eqb_is}
 use Rattle.esr_ops.specs.Lists.{position-None}
-use Rattle.esr_ops.specs.Tests.{any_true, clash, any_here, first_place, place_within}
-use Rattle.esr_accept.proofs.Accepts.{not-false, IsListed as AreListed, cleanup_there, no_cleanup, user_there, unused}
+use Rattle.esr_ops.specs.Tests.{any_true, any_here, first_place, place_within}
+use Rattle.esr_accept.proofs.Accepts.{IsListed as AreListed, cleanup_there, no_cleanup, user_there, unused}
 use Rattle.esr_accept.proofs.DeleteRules.{parts_at}
 use Rattle.esr_accept.proofs.Finds.{same_true, same_one, either_some}
 use Rattle.esr_accept.proofs.Restorables.{is_listed, not_listed, being_deleted, is_spared}
 
 -- ---- uuids of an index
-
-named_by : (x u : ℕ) (us : List ℕ) (b : Bool) → eqb x u ≡ b → cond b true (names_uuid us u) ≡ true → (names_uuid us u ≡ true → Has us u) → Has (x ∷ us) u
-named_by x u us true e h rest = inl (eqb_is x u e)
-named_by x u us false e h rest = inr (rest h)
-
-named_there : (us : List ℕ) (u : ℕ) → names_uuid us u ≡ true → Has us u
-named_there [] u e = absurd (true≢false (sym e))
-named_there (x ∷ us) u e = named_by x u us (eqb x u) refl e (λ h. named_there us u h)
-
-there_by : (b c : Bool) → c ≡ true → cond b true c ≡ true
-there_by true c e = refl
-there_by false c e = e
-
-there_named : (us : List ℕ) (u : ℕ) → Has us u → names_uuid us u ≡ true
-there_named [] u m = absurd m
-there_named (x ∷ us) u (inl is) = ap (λ b. cond b true (names_uuid us u)) (eq-eqb x u is)
-there_named (x ∷ us) u (inr m) = there_by (eqb x u) (names_uuid us u) (there_named us u m)
 
 -- the test over the indices of the code
 pub index-any : (indices : List CodeIndex) (uuid : ℕ) (name : Bytes) → list_any (is_index_of uuid name) (map root_index_of indices) ≡ list_any (λ (x : CodeIndex). is_index_of uuid name (root_index_of x)) indices
@@ -65,13 +49,13 @@ module _ (w : World) (root : RootData) (root_is : w.root ≡ root) (uuid : ℕ) 
   index_there name e =
       let (x, m, hit) = any_true (is_index_of uuid name) root.indices (not-false _ e) in
       let (same, has) = and_parts (same_bytes x.name name) (names_uuid x.snapshots uuid) hit in
-      (x, subst (λ (r : RootData). Has r.indices x) (sym root_is) m, same_true x.name name same, named_there x.snapshots uuid has)
+      (x, subst (λ (r : RootData). Has r.indices x) (sym root_is) m, same_true x.name name same, names_has x.snapshots uuid has)
 
   index_missing : (name : Bytes) → lacks_index root.indices uuid name ≡ true → HasIndexNamed w uuid name → ⊥
   index_missing name e (x, m, name_is, has) =
       let same : same_bytes x.name name ≡ true = elim (same_one x.name name) [ inl t ↦ t.0 | inr f ↦ absurd (f.1 name_is) ] in
       clash (list_any (is_index_of uuid name) root.indices)
-      (any_here (is_index_of uuid name) root.indices x (subst (λ (r : RootData). Has r.indices x) root_is m) (and_from (same_bytes x.name name) (names_uuid x.snapshots uuid) same (there_named x.snapshots uuid has))) (not-true _ e)
+      (any_here (is_index_of uuid name) root.indices x (subst (λ (r : RootData). Has r.indices x) root_is m) (and_from (same_bytes x.name name) (names_uuid x.snapshots uuid) same (has_names x.snapshots uuid has))) (not-true _ e)
 
   all_there : (names : List Bytes) → position (lacks_index root.indices uuid) names ≡ None → HaveIndices w uuid names
   all_there names e name m = index_there name (position-None (lacks_index root.indices uuid) names e name m)
@@ -103,7 +87,8 @@ module _ (ops : List (ℕ × Op)) (deletes : List (ℕ × Deletion)) (p : Plan) 
         (no_cleanup ops deletes p root term next h w is (sym a), user_there ops deletes p root term next h w is name uuid.number (either_some (snap_uuid root.snapshots name) (op_uuid ops name) uuid.number (sym b)))
     name_refused None None a b r e = absurd (none-some r (sym e))
 
-  pub may_name : (name : Bytes) (cleanup : Option ℕ) (user : Option Id) → cleanup ≡ open_cleanup deletes → option_map number_of user ≡ name_user root ops name → ◌≡◌ {A = Option Refusal} None (name_refusal cleanup user) → MayName w name
+  pub may_name : (name : Bytes) (cleanup : Option ℕ) (user : Option Id) → cleanup ≡ open_cleanup deletes → option_map number_of user ≡ name_user root ops name → ◌≡◌ {A = Option Refusal} None (name_refusal cleanup user)
+      → MayName w name
   may_name name (Some op) user a b e = absurd (none-some _ e)
   may_name name None (Some uuid) a b e = absurd (none-some _ e)
   may_name name None None a b e = record { no_cleanup = no_cleanup ops deletes p root term next h w is (sym a); unused = unused ops deletes p root term next h w is name (sym b) }
@@ -121,7 +106,8 @@ module _ (ops : List (ℕ × Op)) (deletes : List (ℕ × Deletion)) (p : Plan) 
   id_left e = subst (λ (n : ℕ). suc n < first_id (suc w.term)) (sym is.next_is) (subst (λ (t : ℕ). suc next < first_id (suc t)) (sym is.term_is) (is_less _ _ e))
 
 module _ (ops : List (ℕ × Op)) (deletes : List (ℕ × Deletion)) (completed : List ℕ) (seats : TicketMaps) (next_op : ℕ) (restores : List (ℕ × RestorePlan)) (p : Plan) (view : plan_with ops deletes completed seats next_op restores ≡ p)
-    (h : IsProgress ops deletes next_op restores) (root : RootData) (term next : ℕ) (w : World) (is : IsAskedIn p root term next w) (source name : Bytes) (names : List Bytes) (may : MayName w name) (uuid : ℕ) (there : IsListed w source uuid) where
+    (h : IsProgress ops deletes next_op restores) (root : RootData) (term next : ℕ) (w : World) (is : IsAskedIn p root term next w)
+    (source name : Bytes) (names : List Bytes) (may : MayName w name) (uuid : ℕ) (there : IsListed w source uuid) where
   pub source_refused : (doomed missing : Option ℕ) → doomed ≡ deleting deletes uuid → missing ≡ position (lacks_index root.indices uuid) names → (r : Refusal) → Some r ≡ source_refusal doomed missing
       → IsCloneRefused w source name names r
   source_refused (Some d) missing a b r e =
@@ -131,7 +117,8 @@ module _ (ops : List (ℕ × Op)) (deletes : List (ℕ × Deletion)) (completed 
       (uuid, record { named = may; listed = there; spared = is_spared ops deletes completed seats next_op restores p view h w is.plan uuid (sym a) }, first_lacking w root is.root_is uuid names i (sym b))
   source_refused None None a b r e = absurd (none-some r (sym e))
 
-  pub may_clone : (doomed missing : Option ℕ) → doomed ≡ deleting deletes uuid → missing ≡ position (lacks_index root.indices uuid) names → ◌≡◌ {A = Option Refusal} None (source_refusal doomed missing) → MayClone w source name names uuid
+  pub may_clone : (doomed missing : Option ℕ) → doomed ≡ deleting deletes uuid → missing ≡ position (lacks_index root.indices uuid) names → ◌≡◌ {A = Option Refusal} None (source_refusal doomed missing)
+      → MayClone w source name names uuid
   may_clone (Some d) missing a b e = absurd (none-some _ e)
   may_clone None (Some i) a b e = absurd (none-some _ e)
   may_clone None None a b e = record {

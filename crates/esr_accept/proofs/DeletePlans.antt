@@ -79,7 +79,8 @@ module _ (uuids : List ℕ) where
 
 -- ---- the lists
 
-module _ (ops : List (ℕ × Op)) (deletes : List (ℕ × Deletion)) (completed : List ℕ) (seats : TicketMaps) (next : ℕ) (restores : List (ℕ × RestorePlan)) (now : Plan) (view : plan_with ops deletes completed seats next restores ≡ now) (h : IsProgress ops deletes next restores)
+module _ (ops : List (ℕ × Op)) (deletes : List (ℕ × Deletion)) (completed : List ℕ) (seats : TicketMaps) (next : ℕ)
+    (restores : List (ℕ × RestorePlan)) (now : Plan) (view : plan_with ops deletes completed seats next restores ≡ now) (h : IsProgress ops deletes next restores)
     (term : ℕ) (uuids : List ℕ) (by : ℕ) (new_ops : List (ℕ × Op)) (ops_are : new_ops ≡ map (aborted_by seats term uuids by) ops) where
   numbers_stay : numbers_of new_ops ≡ numbers_of ops
   numbers_stay = ap numbers_of ops_are ∙ aborted_numbers seats term uuids by ops
@@ -125,7 +126,8 @@ module _ (ops : List (ℕ × Op)) (deletes : List (ℕ × Deletion)) (completed 
 
 -- ---- the plans
 
-module _ (ops : List (ℕ × Op)) (deletes : List (ℕ × Deletion)) (completed : List ℕ) (seats : TicketMaps) (next : ℕ) (restores : List (ℕ × RestorePlan)) (now : Plan) (view : plan_with ops deletes completed seats next restores ≡ now) (h : IsProgress ops deletes next restores)
+module _ (ops : List (ℕ × Op)) (deletes : List (ℕ × Deletion)) (completed : List ℕ) (seats : TicketMaps) (next : ℕ)
+    (restores : List (ℕ × RestorePlan)) (now : Plan) (view : plan_with ops deletes completed seats next restores ≡ now) (h : IsProgress ops deletes next restores)
     (term : ℕ) (w : World) (is : IsPlanOf w now) (term_is : w.term ≡ term) where
   ops_in : fin.from_entries {R = nat_cmp} ops ≡ w.ops
   ops_in = ap (λ (p : Plan). p.ops) view ∙ is.ops
@@ -188,7 +190,8 @@ module _ (ops : List (ℕ × Op)) (deletes : List (ℕ × Deletion)) (completed 
         → (new : Plan) → new ≡ record now { ops = fin.from_entries new_ops; deletes = fin.from_entries new_deletes; next_op = next } → IsPlanOf (delete_merged w names by (fin.get w.deletes by)) new
     merged_is names named deletes_are some new new_is = subst (IsPlanOf (delete_merged w names by (fin.get w.deletes by))) (sym new_is) (merged_by names named deletes_are (fin.get w.deletes by) refl some)
 
-    pub opened_is : by ≡ next → new_deletes ≡ deletes ++ (next, kept_delete uuids) ∷ [] → (new : Plan) → new ≡ record now { ops = fin.from_entries new_ops; deletes = fin.from_entries new_deletes; next_op = next + 1 } → IsPlanOf (delete_opened w uuids) new
+    pub opened_is : by ≡ next → new_deletes ≡ deletes ++ (next, kept_delete uuids) ∷ [] → (new : Plan) → new ≡ record now { ops = fin.from_entries new_ops; deletes = fin.from_entries new_deletes; next_op = next + 1 }
+        → IsPlanOf (delete_opened w uuids) new
     opened_is by_is deletes_are new new_is =
         let ops_now : fin.from_entries {R = nat_cmp} new_ops ≡ aborted_ops w uuids w.next_op = ap (λ (es : List (ℕ × Op)). fin.from_entries {R = nat_cmp} es) ops_are ∙ ops_after uuids by ∙ ap (aborted_ops w uuids) (by_is ∙ next_is) in
         subst (IsPlanOf (delete_opened w uuids)) (sym new_is) (one_opened (aborted_ops w uuids w.next_op) new_ops ops_now (kept_delete uuids) new_deletes deletes_are)

@@ -69,7 +69,8 @@ nobody (Some uuid) e = absurd (true≢false (sym e))
 
 -- ---- the rules
 
-module _ (ops : List (ℕ × Op)) (deletes : List (ℕ × Deletion)) (completed : List ℕ) (seats : TicketMaps) (next : ℕ) (restores : List (ℕ × RestorePlan)) (p : Plan) (view : plan_with ops deletes completed seats next restores ≡ p) (h : IsProgress ops deletes next restores)
+module _ (ops : List (ℕ × Op)) (deletes : List (ℕ × Deletion)) (completed : List ℕ) (seats : TicketMaps) (next : ℕ)
+    (restores : List (ℕ × RestorePlan)) (p : Plan) (view : plan_with ops deletes completed seats next restores ≡ p) (h : IsProgress ops deletes next restores)
     (w : World) (is : IsPlanOf w p) where
   lists : IsListed ops deletes p
   lists = listed ops deletes completed seats next restores p h view
@@ -154,14 +155,16 @@ module _ (ops : List (ℕ × Op)) (deletes : List (ℕ × Deletion)) (completed 
 
     no_reader : reading restores uuids ≡ None → (o : ℕ) → ReadsOne w uuids o → ⊥
     no_reader e o c =
-        true≢false (sym c.names ∙ missed (λ (xs : List (ℕ × RestorePlan)). reading xs uuids) (λ (x : ℕ × RestorePlan). names_uuid uuids x.1.uuid) (λ (x : ℕ × RestorePlan). x.0) refl (λ x xs. refl) restores (o, restore_plan c.r) e (restore_listed o c.r c.there))
+        true≢false (sym c.names ∙ missed (λ (xs : List (ℕ × RestorePlan)). reading xs uuids) (λ (x : ℕ × RestorePlan). names_uuid uuids x.1.uuid)
+        (λ (x : ℕ × RestorePlan). x.0) refl (λ x xs. refl) restores (o, restore_plan c.r) e (restore_listed o c.r c.there))
 
     lowest_reader : (o : ℕ) → reading restores uuids ≡ Some o → IsLowest (ReadsOne w uuids) o
     lowest_reader o e =
         let r = found (λ (xs : List (ℕ × RestorePlan)). reading xs uuids) (λ (x : ℕ × RestorePlan). names_uuid uuids x.1.uuid) (λ (x : ℕ × RestorePlan). x.0) refl (λ x xs. refl) restores o e in (
           subst (ReadsOne w uuids) r.value (reads_one r.x r.there r.hit),
           λ q lt c.
-              true≢false (sym c.names ∙ none_lower (λ (xs : List (ℕ × RestorePlan)). reading xs uuids) (λ (x : ℕ × RestorePlan). names_uuid uuids x.1.uuid) (λ x xs. refl) restores h.restores_numbered.rise o e (q, restore_plan c.r) (restore_listed q c.r c.there) lt),
+              true≢false (sym c.names ∙ none_lower (λ (xs : List (ℕ × RestorePlan)). reading xs uuids) (λ (x : ℕ × RestorePlan). names_uuid uuids x.1.uuid)
+              (λ x xs. refl) restores h.restores_numbered.rise o e (q, restore_plan c.r) (restore_listed q c.r c.there) lt),
         )
 
   -- ---- the first rule

@@ -35,7 +35,8 @@ pub unaborted_is : (o : Option ℕ) → not (is_some o) ≡ is_unaborted o
 unaborted_is None = refl
 unaborted_is (Some by) = refl
 
-module _ (ops : List (ℕ × Op)) (deletes : List (ℕ × Deletion)) (completed : List ℕ) (seats : TicketMaps) (next : ℕ) (restores : List (ℕ × RestorePlan)) (now : Plan) (view : plan_with ops deletes completed seats next restores ≡ now) (h : IsProgress ops deletes next restores)
+module _ (ops : List (ℕ × Op)) (deletes : List (ℕ × Deletion)) (completed : List ℕ) (seats : TicketMaps) (next : ℕ)
+    (restores : List (ℕ × RestorePlan)) (now : Plan) (view : plan_with ops deletes completed seats next restores ≡ now) (h : IsProgress ops deletes next restores)
     (term : ℕ) (w : World) (plan : IsPlanOf w now) (term_is : w.term ≡ term) where
   given : IsGivenIn now w.root w.safe term w
   given = record { plan = plan; root_is = refl; safe_is = refl; term_is = term_is }

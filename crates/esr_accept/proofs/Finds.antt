@@ -65,10 +65,6 @@ pub either_some : {A : Type 0} (a b : Option A) (x : A) → or_else a b ≡ Some
 either_some None b x e = inr e
 either_some (Some y) b x e = inl e
 
-pub neither : {A : Type 0} (a b : Option A) → or_else a b ≡ None → (a ≡ None) × (b ≡ None)
-neither None b e = (refl, e)
-neither (Some a) b e = absurd (none-some a (sym e))
-
 -- ---- the id of an index name
 
 pub record OpenHas (ops : List (ℕ × Op)) (name : Bytes) (i : ℕ) : Type 0 where

@@ -23,4 +23,5 @@ pub shards_step : (at : ℕ) (index : Id) (n : ℕ) (old now new : List OpenShar
 shards_step at index n old now new is pushed =
     let same : n ≡ 0 + n = omega arith in
     pushed ∙ ap (λ (xs : List OpenShard). xs ++ record { at = at; shard = record { index = index; number = n }; state = states.Pending } ∷ []) is ∙ append_assoc old (shards_from at index 0 n) _
-    ∙ ap (λ (xs : List OpenShard). old ++ xs) (ap (λ (k : ℕ). shards_from at index 0 n ++ (record { at = at; shard = record { index = index; number = k }; state = states.Pending } ∷ [])) same ∙ sym (shards_from-more at index 0 n) ∙ ap (shards_from at index 0) (sym (add-one n)))
+    ∙ ap (λ (xs : List OpenShard). old ++ xs)
+    (ap (λ (k : ℕ). shards_from at index 0 n ++ (record { at = at; shard = record { index = index; number = k }; state = states.Pending } ∷ [])) same ∙ sym (shards_from-more at index 0 n) ∙ ap (shards_from at index 0) (sym (add-one n)))

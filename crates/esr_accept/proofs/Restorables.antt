@@ -1,7 +1,7 @@
 -- What accepting a restore answers.
 use Rattle.std.proofs.Common.{◌≡◌, ℕ, zero, suc, ◌+◌, ◌<◌, ◌≤◌, Bool, true, false, cond, List, [], ◌∷◌, ◌++◌, Some, None, option_map, map, length, refl, sym, ap, ◌∙◌, subst, inl, inr, true≢false, arith, nat_cmp, slice_get}
 use Rattle.std.specs.Prelude.{not, nat_lt}
-use Rattle.std.proofs.lemmas.Bool.{cases_lt}
+use Rattle.std.proofs.lemmas.Bool.{cases_lt, not-false}
 use Rattle.std.proofs.lemmas.Bool.Decides.{Decides-ltb}
 use Rattle.std.specs.List.{AllByRecursion}
 use Rattle.std.specs.FinMap.{FinMap}
@@ -30,7 +30,7 @@ use Rattle.esr_progress.specs.Changes.{put_plan}
 use Rattle.esr_ops.specs.Entries.{get_from, find-member}
 use Rattle.esr_ops.specs.Lists.{all_member}
 use Rattle.esr_ops.specs.Numbers.{found_member}
-use Rattle.esr_progress.specs.Plans.{is_there_by, restores_put, restores_put_count, restores_left, restores_left_count, any_waits-works}
+use Rattle.esr_progress.specs.Plans.{restores_put, restores_put_count, restores_left, restores_left_count, any_waits-works}
 use Rattle.esr_accept.proofs.Begun.{all_of}
 use Rattle.esr_accept.proofs.Finds.{len_from, found, missed, same_true, same_false}
 
@@ -65,7 +65,7 @@ module _ (ops : List (ℕ × Op)) (deletes : List (ℕ × Deletion)) (completed 
   full_is e = elim (cases_lt (length restores) 1000) [ inl lt ↦ absurd (true≢false (sym e ∙ ap not ((Decides-ltb _ _).1 lt))) | inr le ↦ omega (arith, count_is) ]
 
   pub room_is : not (nat_lt (length restores) 1000) ≡ false → fin.len w.restores < 1000
-  room_is e = let lt : length restores < 1000 = (Decides-ltb _ _).0 (is_there_by _ e) in omega (arith, count_is)
+  room_is e = let lt : length restores < 1000 = (Decides-ltb _ _).0 (not-false _ e) in omega (arith, count_is)
 
   pub being_deleted : (uuid d : ℕ) → deleting deletes uuid ≡ Some d → IsBeingDeleted w uuid d
   being_deleted uuid d e =
@@ -88,7 +88,8 @@ module _ (w : World) (root : RootData) (root_is : w.root ≡ root) (name : Bytes
 
   pub not_listed : snap_uuid root.snapshots name ≡ None → (uuid : ℕ) → IsListed w name uuid → ⊥
   not_listed e uuid (s, there, name_is, uuid_is) =
-      same_false s.name name (missed (λ (xs : List RootSnap). snap_uuid xs name) (λ (x : RootSnap). same_bytes x.name name) (λ (x : RootSnap). x.uuid) refl (λ x xs. refl) root.snapshots s e (subst (λ (z : RootData). Has z.snapshots s) root_is there)) name_is
+      same_false s.name name
+      (missed (λ (xs : List RootSnap). snap_uuid xs name) (λ (x : RootSnap). same_bytes x.name name) (λ (x : RootSnap). x.uuid) refl (λ x xs. refl) root.snapshots s e (subst (λ (z : RootData). Has z.snapshots s) root_is there)) name_is
 
 -- ---- a restore as it begins
 
@@ -103,7 +104,8 @@ module _ (refs : List CodeRef) (place : Bytes) where
       let here : at + 0 ≡ at = omega arith in
       map-append (work_of_read refs place) (shards_from at r.id 0 r.shards) (shards_of (suc at) rs)
       ∙ (λ j. reads-from at r (ap (slice_get refs) (sym here) ∙ are 0) 0 r.shards j ++ reads-of (suc at) rs (λ i. let past : suc at + i ≡ at + suc i = omega arith in ap (slice_get refs) past ∙ are (suc i)) j)
-      ∙ sym (ap (map (read_work place)) (map-append unread (numbered (ref_of_code r) 0 r.shards) (places (map ref_of_code rs))) ∙ map-append (read_work place) (map unread (numbered (ref_of_code r) 0 r.shards)) (map unread (places (map ref_of_code rs))))
+      ∙ sym (ap (map (read_work place)) (map-append unread (numbered (ref_of_code r) 0 r.shards) (places (map ref_of_code rs)))
+      ∙ map-append (read_work place) (map unread (numbered (ref_of_code r) 0 r.shards)) (map unread (places (map ref_of_code rs))))
 
   pub begun_is : (uuid : Id) (shards : List OpenShard) → shards ≡ shards_of 0 refs → restore_with uuid place refs shards ≡ restore_begun uuid.number place (map ref_of_code refs)
   begun_is uuid shards is =
@@ -112,7 +114,8 @@ module _ (refs : List CodeRef) (place : Bytes) where
 
 pub restore_begins : (refs : List CodeRef) (shards : List OpenShard) → AreApart (map ref_of_code refs) → shards ≡ shards_of 0 refs → IsOpenRestore refs shards
 restore_begins refs shards apart is =
-    let pending : AllByRecursion (λ (s : OpenShard). s.state ≡ states.Pending) shards = subst (AllByRecursion (λ (s : OpenShard). s.state ≡ states.Pending)) (sym is) (all_of (λ (s : OpenShard). s.state ≡ states.Pending) 0 refs apart (λ j k index lt few. refl)) in
+    let pending : AllByRecursion (λ (s : OpenShard). s.state ≡ states.Pending) shards =
+    subst (AllByRecursion (λ (s : OpenShard). s.state ≡ states.Pending)) (sym is) (all_of (λ (s : OpenShard). s.state ≡ states.Pending) 0 refs apart (λ j k index lt few. refl)) in
     record {
       within = subst (AllByRecursion (LiesIn refs)) (sym is) (all_of (LiesIn refs) 0 refs apart (λ j k index lt few. (omega arith, few)));
       alike = λ a b ha hb i n. all_member _ shards pending a ha ∙ sym (all_member _ shards pending b hb);
@@ -143,7 +146,8 @@ module _ (w : World) (p : Plan) (is : IsPlanOf w p) (uuid : ℕ) (place : Bytes)
   opened_with true false e = absurd (true≢false e)
   opened_with false true e = absurd (true≢false (sym e))
 
-  pub opened_is : (r : ℕ × RestorePlan) → r ≡ (p.next_op, restore_begun uuid place indices) → (new : Plan) → new ≡ record p { restores = put_plan p.restores r.0 r.1; next_op = suc p.next_op } → IsPlanOf (restore_opened w uuid place indices) new
+  pub opened_is : (r : ℕ × RestorePlan) → r ≡ (p.next_op, restore_begun uuid place indices) → (new : Plan) → new ≡ record p { restores = put_plan p.restores r.0 r.1; next_op = suc p.next_op }
+      → IsPlanOf (restore_opened w uuid place indices) new
   opened_is r r_is new new_is =
       subst (IsPlanOf (restore_opened w uuid place indices))
       (sym (new_is ∙ ap (λ (x : ℕ × RestorePlan). record p { restores = put_plan p.restores x.0 x.1; next_op = suc p.next_op }) (r_is ∙ λ j. (is.next_op j, restore_begun uuid place indices))))

@@ -26,6 +26,7 @@ use Rattle.esr_bounds.proofs.Few.{few_once}
 use Rattle.esr_bounds.proofs.Names.{Grown, keys_grown}
 use Rattle.esr_bounds.proofs.OwnSteps.{DrewFew, own_step}
 use Rattle.esr_bounds.proofs.Once.{Kept, counted, never_anew, blocked_unheard, looked_at, step_kept, untouched_kept, heard_kept}
+use Rattle.esr_bounds.proofs.Counting.{none_more}
 
 -- ---- what holds of a world
 
@@ -96,7 +97,10 @@ module _ (f : Formats) (size : ℕ) (known : AllKnown f) (laws : StepLaws f size
         by (UnitStep t out own) = own_at t v some out.there own now
         by (ReaderStep q reading own) = absurd (⊎_elim
             (λ (old : (t : Ticket) × (fin.get w.tickets m.entry.who ≡ Some t) × SameUnit t v). reads.apart.tickets m.entry.who q old.0 reading.there old.1)
-            (λ (new : (m.entry.who ≡ w.next_ticket) × IsNewTicket w v). let below : m.entry.who < w.next_ticket = (reads.tracked.tickets m.entry.who q reading.there).1 in let same : m.entry.who ≡ w.next_ticket = new.0 in omega (arith, below, same))
+            (λ (new : (m.entry.who ≡ w.next_ticket) × IsNewTicket w v).
+            let below : m.entry.who < w.next_ticket = (reads.tracked.tickets m.entry.who q reading.there).1 in
+            let same : m.entry.who ≡ w.next_ticket = new.0 in
+            omega (arith, below, same))
             ((laws.frame w m).come m.entry.who v now))
 
     bounded_at : (k : ℕ) (v : Ticket) → 1 ≤ k → fin.get (after f w m).tickets k ≡ Some v → BoundedAt f size (after f w m) k v
@@ -111,7 +115,8 @@ module _ (f : Formats) (size : ℕ) (known : AllKnown f) (laws : StepLaws f size
   pub log_bounded : (w : World) (log : List Moment) → Tracked w → ReadTracked w → Kept w → Bounded f size w → IsLegal f size w log → AreHeard log → Bounded f size (world_from f w log)
   log_bounded w [] tracked reads kept bounded legal heard = bounded
   log_bounded w (m ∷ log) tracked reads kept bounded legal heard =
-      log_bounded (after f w m) log (laws.tracks w m tracked legal.0) (laws.reads w m tracked reads legal.0) (step_kept f size laws w m tracked reads legal.0 (heard m (inl refl)) kept) (step_bounded w m tracked reads legal.0 (heard m (inl refl)) kept bounded) legal.1 (λ n h. heard n (inr h))
+      log_bounded (after f w m) log (laws.tracks w m tracked legal.0) (laws.reads w m tracked reads legal.0) (step_kept f size laws w m tracked reads legal.0 (heard m (inl refl)) kept)
+      (step_bounded w m tracked reads legal.0 (heard m (inl refl)) kept bounded) legal.1 (λ n h. heard n (inr h))
 
 -- where nothing was done so far
 pub untouched_bounded : (f : Formats) (size : ℕ) (w : World) → IsUntouched w → Bounded f size w
@@ -125,9 +130,6 @@ untouched_bounded f size w h = record { few = λ k t some there. absurd (no_tick
 pub length_keys : (es : List Entry) → length (keys es) ≡ length es
 length_keys [] = refl
 length_keys (e ∷ es) = ap suc (length_keys es)
-
-none_more : (n : ℕ) → n ≡ 0 + n
-none_more n = omega arith
 
 -- the entries of a ticket are as many as its steps in the history, and those before
 module _ (f : Formats) (size : ℕ) (laws : StepLaws f size) where
@@ -172,7 +174,8 @@ all_keys a b c d whole few n p q = let is : a ≡ 10 + (b + (c + d)) = whole in 
 pub few_keys : (f : Formats) (size : ℕ) (t : Ticket) → length (keys_of f size t) ≤ 12 + 2 * length (names_of f size t)
 few_keys f size t =
     all_keys (length (keys_of f size t)) (length (map FetchKey (fetch_names t t.work))) (length (map BeginKey (names_of f size t))) (length (map CommitKey (names_of f size t)))
-    (length-append single_keys _ ∙ ap (λ n. 10 + n) (length-append (map FetchKey (fetch_names t t.work)) _ ∙ ap (λ n. length (map FetchKey (fetch_names t t.work)) + n) (length-append (map BeginKey (names_of f size t)) (map CommitKey (names_of f size t)))))
+    (length-append single_keys _
+    ∙ ap (λ n. 10 + n) (length-append (map FetchKey (fetch_names t t.work)) _ ∙ ap (λ n. length (map FetchKey (fetch_names t t.work)) + n) (length-append (map BeginKey (names_of f size t)) (map CommitKey (names_of f size t)))))
     (subst (λ n. n ≤ 2) (sym (length-map (fetch_names t t.work) FetchKey)) (few_fetched t t.work)) (length (names_of f size t)) (length-map (names_of f size t) BeginKey) (length-map (names_of f size t) CommitKey)
 
 -- so many steps the ticket of no delete has made at most
@@ -203,7 +206,8 @@ length_under : (index number parts first drawn : ℕ) → length (names_under in
 length_under index number parts first zero = sym (zero-mul (2 + parts))
 length_under index number parts first (suc drawn) =
     ap (λ (n : ℕ). suc (suc n))
-    (length-append (parts_from index number first 0 parts) (names_under index number parts (suc first) drawn) ∙ ap (λ (n : ℕ). n + length (names_under index number parts (suc first) drawn)) (length_parts index number first 0 parts) ∙ ap (λ (n : ℕ). parts + n) (length_under index number parts (suc first) drawn))
+    (length-append (parts_from index number first 0 parts) (names_under index number parts (suc first) drawn)
+    ∙ ap (λ (n : ℕ). n + length (names_under index number parts (suc first) drawn)) (length_parts index number first 0 parts) ∙ ap (λ (n : ℕ). parts + n) (length_under index number parts (suc first) drawn))
     ∙ two_more parts (drawn * (2 + parts)) (suc drawn * (2 + parts)) (suc-mul drawn (2 + parts))
 
 few_roots : (o : Option ℕ) → length (root_names o) ≤ 1
@@ -241,7 +245,8 @@ module _ (f : Formats) (size : ℕ) (w : World) (kept : Kept w) (bounded : Bound
   shard_made index number is = as_two (length (entries_by w.entries k)) (ids_by f t.place t.name number t.source * (2 + parts_by f size t.place t.name number t.source))
       (made_few (λ h. subst IsDelete is h) (1 + ids_by f t.place t.name number t.source * (2 + parts_by f size t.place t.name number t.source))
       (subst (λ (work : Work). length (shard_names f size t work t.first t.drawn) + length (swap_names (swap_of f work t.root)) ≤ 1 + ids_by f t.place t.name number t.source * (2 + parts_by f size t.place t.name number t.source)) (sym is)
-      (one_more (length (names_under index number (parts_by f size t.place t.name number t.source) t.first t.drawn)) (t.drawn * (2 + parts_by f size t.place t.name number t.source)) (ids_by f t.place t.name number t.source * (2 + parts_by f size t.place t.name number t.source))
+      (one_more (length (names_under index number (parts_by f size t.place t.name number t.source) t.first t.drawn))
+      (t.drawn * (2 + parts_by f size t.place t.name number t.source)) (ids_by f t.place t.name number t.source * (2 + parts_by f size t.place t.name number t.source))
       (length_under index number (parts_by f size t.place t.name number t.source) t.first t.drawn) (mul-le-mul_right (2 + parts_by f size t.place t.name number t.source) (bounded.few k t some there index number is)))))
     where
       one_more : (a b c : ℕ) → a ≡ b → b ≤ c → suc a + 0 ≤ 1 + c

@@ -22,13 +22,13 @@ use Rattle.esr_core.specs.After.{told_blob, is_heard, caller_told, caller_wrote,
 use Rattle.esr_core.specs.Allowed as allowed
 use Rattle.esr_core.specs.Allowed.{ReadAllows, VerifyAllows, Allows, Allowed}
 use Rattle.esr_core.specs.History.{IsLegal, AreTold}
+use Rattle.esr_core.specs.Laws.StepFrames.{change_caller}
 use Rattle.esr_bounds.specs.Keys.{IsUnheard, AreHeard, IsHeard}
 use Rattle.esr_bounds.specs.Clients.{anew_by, anew_in, fetches_at, fetches_by, fetches_in}
 use Rattle.esr_bounds.specs.Others.{lost_at, lost_by, most_blobs}
 use Rattle.esr_bounds.specs.Laws.{StepLaws}
 use Rattle.esr_bounds.proofs.Few.{few_once}
 use Rattle.esr_bounds.proofs.Once.{looked_at}
-use Rattle.esr_bounds.proofs.Clients.{same_caller}
 use Rattle.esr_bounds.proofs.Prunes.{Tells, told_is}
 use Rattle.esr_bounds.proofs.Verifying.{ask_heard}
 use Rattle.esr_bounds.proofs.Listed.{texts, in_texts, written, all_written, length_seen, SeenBlobs, blobs_now}
@@ -146,7 +146,7 @@ record ChecksIn (f : Formats) (seen : List Bytes) (w : World) : Type 0 where
   blobs : SeenBlobs seen w
   found : (name : BlobName) → Has w.caller.found name → WasThere f seen name
 
-one_name : (f : Formats) (a b : BlobName) → IsStored f a → IsStored f b → f.names.text a ≡ f.names.text b → a ≡ b
+pub one_name : (f : Formats) (a b : BlobName) → IsStored f a → IsStored f b → f.names.text a ≡ f.names.text b → a ≡ b
 one_name f a b p q same = same_Some a b (sym p.0 ∙ ap f.names.read same ∙ q.0)
 
 texts_once : (f : Formats) (seen : List Bytes) (names : List BlobName) → AreOnce names → ((name : BlobName) → Has names name → WasThere f seen name) → AreOnce (map f.names.text names)
@@ -163,12 +163,15 @@ few_found f seen w reads h =
     subst (λ (n : ℕ). n ≤ length seen) (length-map w.caller.found f.names.text)
     (few_once (map f.names.text w.caller.found) seen (texts_once f seen w.caller.found reads.once.found h.found) (λ x had. let r = Has-mapped f.names.text w.caller.found x had in subst (Has seen) r.2 (h.found r.0 r.1).1))
 
-module _ (f : Formats) (size : ℕ) (laws : StepLaws f size) (change : (w : World) (who : ℕ) (step : Step) (reply : Reply) (image : Option Image) → StepChange f w who step (answered f w who step reply image)) (others : (w : World) (m : Moment) → Allowed f size w m → m.entry.who ≢ 0 → (after f w m).caller ≡ w.caller) (blobs_change : (w : World) (m : Moment) (i : Image) → m.image ≡ Some i → Allowed f size w m → BlobsChange f w m.entry.step i.blobs) where
+module _ (f : Formats) (size : ℕ) (laws : StepLaws f size) (change : (w : World) (who : ℕ) (step : Step) (reply : Reply) (image : Option Image) → StepChange f w who step (answered f w who step reply image))
+    (others : (w : World) (m : Moment) → Allowed f size w m → m.entry.who ≢ 0 → (after f w m).caller ≡ w.caller)
+    (blobs_change : (w : World) (m : Moment) (i : Image) → m.image ≡ Some i → Allowed f size w m → BlobsChange f w m.entry.step i.blobs) where
   record AfterFound (w : World) (m : Moment) (seen : List Bytes) (most : ℕ) : Type 0 where
     now : ChecksIn f (seen ++ written f m.entry.step) (after f w m)
     spends : found_by m.entry.who m.entry.step m.entry.reply + length w.caller.found ≤ anew_by m.entry.who m.entry.step * most + length (after f w m).caller.found
 
-  one_after : (w : World) (m : Moment) → ReadTracked w → Allowed f size w m → (IsUnheard m.entry.reply → ⊥) → Tells m.image → (seen : List Bytes) (most : ℕ) → length w.caller.found ≤ most → ChecksIn f seen w → AfterFound w m seen most
+  one_after : (w : World) (m : Moment) → ReadTracked w → Allowed f size w m → (IsUnheard m.entry.reply → ⊥) → Tells m.image → (seen : List Bytes) (most : ℕ) → length w.caller.found ≤ most → ChecksIn f seen w
+      → AfterFound w m seen most
   one_after w m reads a heard told seen most few h = elim (eqb_tells m.entry.who 0) [ inl nobody ↦ own nobody.1 | inr other ↦ kept other.1 ]
     where
       now_seen : List Bytes
@@ -189,7 +192,8 @@ module _ (f : Formats) (size : ℕ) (laws : StepLaws f size) (change : (w : Worl
           let same : (after f w m).caller ≡ w.caller = others w m a other in
           record {
             now = record { blobs = now_blobs; found = λ name had. more name (h.found name (subst (λ (c : Caller). Has c.found name) same had)) };
-            spends = le (found_by m.entry.who m.entry.step m.entry.reply) (length w.caller.found) (anew_by m.entry.who m.entry.step * most) (length (after f w m).caller.found) (none_found m.entry.who m.entry.step m.entry.reply other) (ap (λ (c : Caller). length c.found) same);
+            spends = le (found_by m.entry.who m.entry.step m.entry.reply) (length w.caller.found) (anew_by m.entry.who m.entry.step * most)
+                (length (after f w m).caller.found) (none_found m.entry.who m.entry.step m.entry.reply other) (ap (λ (c : Caller). length c.found) same);
           }
         where
           le : (a n x d : ℕ) → a ≡ 0 → d ≡ n → a + n ≤ x + d
@@ -199,7 +203,8 @@ module _ (f : Formats) (size : ℕ) (laws : StepLaws f size) (change : (w : Worl
       own nobody =
           let next = step_next f size w reads seen h.blobs most few m.entry.step m.entry.reply m.image told (subst (λ (who : ℕ). Allows f size w who m.entry.step m.entry.reply m.image) nobody (looked_at f size laws w m a heard).1) in
           let caller_is : (after f w m).caller ≡ caller_after f w.caller 0 m.entry.step m.entry.reply m.image =
-          ap (λ (c : Caller). caller_after f c m.entry.who m.entry.step m.entry.reply m.image) (same_caller f w m.entry.who m.entry.step (answered f w m.entry.who m.entry.step m.entry.reply m.image) (change w m.entry.who m.entry.step m.entry.reply m.image))
+          ap (λ (c : Caller). caller_after f c m.entry.who m.entry.step m.entry.reply m.image)
+          (change_caller f w m.entry.who m.entry.step (answered f w m.entry.who m.entry.step m.entry.reply m.image) (change w m.entry.who m.entry.step m.entry.reply m.image))
           ∙ ap (λ (who : ℕ). caller_after f w.caller who m.entry.step m.entry.reply m.image) nobody in
           record {
             now = record {
@@ -211,13 +216,15 @@ module _ (f : Formats) (size : ℕ) (laws : StepLaws f size) (change : (w : Worl
                 (subst (λ (c : Caller). found_by 0 m.entry.step m.entry.reply + length w.caller.found ≤ anew_by 0 m.entry.step * most + length c.found) (sym caller_is) next.spends);
           }
 
-  found_few : (w : World) (log : List Moment) (seen : List Bytes) (most : ℕ) → Tracked w → ReadTracked w → IsLegal f size w log → AreHeard log → AreTold log → length (seen ++ all_written f log) ≤ most → ChecksIn f seen w → found_in log + length w.caller.found ≤ anew_in log * most + most
+  found_few : (w : World) (log : List Moment) (seen : List Bytes) (most : ℕ) → Tracked w → ReadTracked w → IsLegal f size w log → AreHeard log → AreTold log → length (seen ++ all_written f log) ≤ most → ChecksIn f seen w
+      → found_in log + length w.caller.found ≤ anew_in log * most + most
   found_few w [] seen most tracked reads legal heard told fits h = last (length w.caller.found) (length seen) (few_found f seen w reads h) (subst (λ (l : List Bytes). length l ≤ most) (append-nil seen) fits)
     where
       last : (a b : ℕ) → a ≤ b → b ≤ most → 0 + a ≤ 0 * most + most
       last a b p q = let one : a ≤ b = p in let two : b ≤ most = q in omega (arith, one, two)
   found_few w (m ∷ log) seen most tracked reads legal heard told fits h =
-      let few : length w.caller.found ≤ most = within (length w.caller.found) (length seen) (length (written f m.entry.step ++ all_written f log)) (length (seen ++ (written f m.entry.step ++ all_written f log))) (few_found f seen w reads h) (length-append seen (written f m.entry.step ++ all_written f log)) fits in
+      let few : length w.caller.found ≤ most = within (length w.caller.found) (length seen) (length (written f m.entry.step ++ all_written f log))
+      (length (seen ++ (written f m.entry.step ++ all_written f log))) (few_found f seen w reads h) (length-append seen (written f m.entry.step ++ all_written f log)) fits in
       let first = one_after w m reads legal.0 (heard m (inl refl)) told.0 seen most few h in
       let rest = found_few (after f w m) log (seen ++ written f m.entry.step) most (laws.tracks w m tracked legal.0) (laws.reads w m tracked reads legal.0) legal.1 (λ n had. heard n (inr had)) told.1
       (subst (λ (l : List Bytes). length l ≤ most) (sym (append_assoc seen (written f m.entry.step) (all_written f log))) fits) first.now in
@@ -280,8 +287,10 @@ fetched_few (m ∷ log) = elim (eqb_tells m.entry.who 0) [
     more : (a b c d l : ℕ) → a ≡ 0 → b ≤ d + l → a + b ≤ (c + d) + l
     more a b c d l p q = let one : a ≡ 0 = p in let two : b ≤ d + l = q in omega (arith, one, two)
 
-pub checks_few : (f : Formats) (size : ℕ) (laws : StepLaws f size) (change : (w : World) (who : ℕ) (step : Step) (reply : Reply) (image : Option Image) → StepChange f w who step (answered f w who step reply image)) (others : (w : World) (m : Moment) → Allowed f size w m → m.entry.who ≢ 0 → (after f w m).caller ≡ w.caller)
-    → (blobs_change : (w : World) (m : Moment) (i : Image) → m.image ≡ Some i → Allowed f size w m → BlobsChange f w m.entry.step i.blobs) → (w : World) (log : List Moment) → IsHeard f size w log → AreTold log → fetches_in log ≤ anew_in log * most_blobs w log + (most_blobs w log + lost_by log 0)
+pub checks_few : (f : Formats) (size : ℕ) (laws : StepLaws f size) (change : (w : World) (who : ℕ) (step : Step) (reply : Reply) (image : Option Image) → StepChange f w who step (answered f w who step reply image))
+    (others : (w : World) (m : Moment) → Allowed f size w m → m.entry.who ≢ 0 → (after f w m).caller ≡ w.caller)
+    → (blobs_change : (w : World) (m : Moment) (i : Image) → m.image ≡ Some i → Allowed f size w m → BlobsChange f w m.entry.step i.blobs) → (w : World) (log : List Moment) → IsHeard f size w log → AreTold log
+    → fetches_in log ≤ anew_in log * most_blobs w log + (most_blobs w log + lost_by log 0)
 checks_few f size laws change others blobs_change w log h told =
     sum (fetches_in log) (found_in log) (lost_by log 0) (length w.caller.found) (anew_in log * most_blobs w log) (most_blobs w log) (fetched_few log)
     (found_few f size laws change others blobs_change w log (texts w.blobs) (most_blobs w log) h.tracked h.readers h.legal h.heard told (same (length (texts w.blobs ++ all_written f log)) (most_blobs w log) (length_seen f w log)) start)

@@ -8,12 +8,13 @@ use Rattle.esr_model.specs.Image.{Image}
 use Rattle.esr_core.specs.World.{World, Caller, no_caller}
 use Rattle.esr_core.specs.ReadTracked.{ReadTracked}
 use Rattle.esr_core.specs.Tracked.{Tracked}
-use Rattle.esr_core.specs.Changes.{StepChange, NoChange, NewOp, NewDeletion, MergedDeletion, NewRestore, NewTicket, NewReader, OwnTicket, Settlement, UnitEnd, DeletionFailure, OpDrop, Election, ReaderFetch, ReaderEnd, PlainDraw, TestBlob, SwapFault}
+use Rattle.esr_core.specs.Changes.{StepChange}
 use Rattle.esr_core.specs.Entry.{Read, ReadBlob, CheckedAll, DrawTest, CommitTest, RemoveTests, VerifiedAll, ReadFails, Step, AskStep, LookStep, ReadStep, Reply, WasDone, WasFetched, WasAbsent, WasRemoved, HasEnded, Moment}
 use Rattle.esr_core.specs.After.{told_blob, is_heard, caller_told, caller_wrote, caller_ended, caller_read, caller_after, answered, after}
 use Rattle.esr_core.specs.Allowed as allowed
 use Rattle.esr_core.specs.Allowed.{ReadAllows, VerifyAllows, Allows, Allowed}
 use Rattle.esr_core.specs.History.{IsLegal}
+use Rattle.esr_core.specs.Laws.StepFrames.{change_caller}
 use Rattle.esr_bounds.specs.Keys.{IsUnheard, AreHeard}
 use Rattle.esr_bounds.specs.Clients.{draws_by, looks_by, ends_by, draws_in, looks_in, ends_in}
 use Rattle.esr_bounds.specs.Laws.{StepLaws}
@@ -55,27 +56,6 @@ open_spent false None true is = refl
 open_spent false None false is = absurd cc
 
 -- ---- a step
-
--- steps leave what who 0 has done; what it does itself is noted besides
-pub same_caller : (f : Formats) (w : World) (who : ℕ) (step : Step) (new : World) → StepChange f w who step new → new.caller ≡ w.caller
-same_caller f w who step new NoChange = refl
-same_caller f w who step new (NewOp ask op completed next_id is rises) = refl
-same_caller f w who step new (NewDeletion ask ops x aborts clean) = refl
-same_caller f w who step new (MergedDeletion ask ops d x y aborts there clean failed) = refl
-same_caller f w who step new (NewRestore ask r) = refl
-same_caller f w who step new (NewTicket take t is ops same) = refl
-same_caller f w who step new (NewReader take o r s there) = refl
-same_caller f w who step new (OwnTicket t u there same is next pending up more) = refl
-same_caller f w who step new (Settlement settle t s n names deletes there is raised left) = refl
-same_caller f w who step new (UnitEnd t op u completed there standing same) = refl
-same_caller f w who step new (DeletionFailure t x there standing) = refl
-same_caller f w who step new (OpDrop drop t there) = refl
-same_caller f w who step new (Election elect) = refl
-same_caller f w who step new (ReaderFetch q name bytes there) = refl
-same_caller f w who step new (ReaderEnd q r state there standing) = refl
-same_caller f w who step new (PlainDraw next pending up more) = refl
-same_caller f w who step new (TestBlob name is) = refl
-same_caller f w who step new (SwapFault swaps up change) = same_caller f w who step up change
 
 module _ (f : Formats) (size : ℕ) (w : World) (reads : ReadTracked w) where
   abbrev Ended : Reply → Type 0
@@ -165,7 +145,8 @@ module _ (f : Formats) (size : ℕ) (w : World) (reads : ReadTracked w) where
 
 -- ---- over a history
 
-module _ (f : Formats) (size : ℕ) (steps : StepLaws f size) (change : (w : World) (who : ℕ) (step : Step) (reply : Reply) (image : Option Image) → StepChange f w who step (answered f w who step reply image)) (others : (w : World) (m : Moment) → Allowed f size w m → m.entry.who ≢ 0 → (after f w m).caller ≡ w.caller) where
+module _ (f : Formats) (size : ℕ) (steps : StepLaws f size) (change : (w : World) (who : ℕ) (step : Step) (reply : Reply) (image : Option Image) → StepChange f w who step (answered f w who step reply image))
+    (others : (w : World) (m : Moment) → Allowed f size w m → m.entry.who ≢ 0 → (after f w m).caller ≡ w.caller) where
   one_le : (w : World) (m : Moment) → ReadTracked w → Allowed f size w m → (IsUnheard m.entry.reply → ⊥)
       → ends_by m.entry.who m.entry.step + open_of (after f w m).caller ≤ (looks_by m.entry.who m.entry.step + draws_by m.entry.who m.entry.step) + open_of w.caller
   one_le w m reads a heard = by m.entry.who refl
@@ -177,14 +158,15 @@ module _ (f : Formats) (size : ℕ) (steps : StepLaws f size) (change : (w : Wor
       by (suc k) is = kept m.entry.step k (others w m a (λ nobody. let clash : suc k ≡ 0 = sym is ∙ nobody in absurd (omega (arith, clash))))
       by zero is =
           subst (λ (c : Caller). ends_by 0 m.entry.step + open_of (caller_after f c m.entry.who m.entry.step m.entry.reply m.image) ≤ (looks_by 0 m.entry.step + draws_by 0 m.entry.step) + open_of w.caller)
-          (sym (same_caller f w m.entry.who m.entry.step (answered f w m.entry.who m.entry.step m.entry.reply m.image) (change w m.entry.who m.entry.step m.entry.reply m.image)))
+          (sym (change_caller f w m.entry.who m.entry.step (answered f w m.entry.who m.entry.step m.entry.reply m.image) (change w m.entry.who m.entry.step m.entry.reply m.image)))
           (subst (λ (who : ℕ). ends_by 0 m.entry.step + open_of (caller_after f w.caller who m.entry.step m.entry.reply m.image) ≤ (looks_by 0 m.entry.step + draws_by 0 m.entry.step) + open_of w.caller) (sym is)
           (step_le f size w reads m.entry.step m.entry.reply m.image (subst (λ (who : ℕ). Allows f size w who m.entry.step m.entry.reply m.image) is (looked_at f size steps w m a heard).1)))
 
   ends_few : (w : World) (log : List Moment) → Tracked w → ReadTracked w → IsLegal f size w log → AreHeard log → ends_in log ≤ (looks_in log + draws_in log) + open_of w.caller
   ends_few w [] tracked reads legal heard = let none : 0 ≤ (0 + 0) + open_of w.caller = omega arith in none
   ends_few w (m ∷ log) tracked reads legal heard =
-      both (ends_by m.entry.who m.entry.step) (open_of (after f w m).caller) (looks_by m.entry.who m.entry.step) (draws_by m.entry.who m.entry.step) (open_of w.caller) (ends_in log) (looks_in log) (draws_in log) (one_le w m reads legal.0 (heard m (inl refl)))
+      both (ends_by m.entry.who m.entry.step) (open_of (after f w m).caller) (looks_by m.entry.who m.entry.step) (draws_by m.entry.who m.entry.step)
+      (open_of w.caller) (ends_in log) (looks_in log) (draws_in log) (one_le w m reads legal.0 (heard m (inl refl)))
       (ends_few (after f w m) log (steps.tracks w m tracked legal.0) (steps.reads w m tracked reads legal.0) legal.1 (λ n h. heard n (inr h)))
     where
       both : (e now l d was es ls ds : ℕ) → e + now ≤ (l + d) + was → es ≤ (ls + ds) + now → e + es ≤ ((l + ls) + (d + ds)) + was

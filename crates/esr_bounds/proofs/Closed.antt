@@ -46,10 +46,13 @@ module _ (f : Formats) (size : ℕ) (w : World) (log : List Moment) (writes : wr
       sum : (n b e l m : ℕ) → n ≤ 1 + (b + l) → b ≤ e → l ≤ m → n ≤ 1 + (e + m)
       sum n b e l m p q r = let one : n ≤ 1 + (b + l) = p in let two : b ≤ e = q in let three : l ≤ m = r in omega (arith, one, two, three)
 
-  pub all_few : length log ≤ most_asked f size w log (most_deleting f size w log) (most_restoring f size w log) → fetches_in log ≤ anew_in log * most_blobs w log + (most_blobs w log + lost_by log 0) → ends_in log ≤ looks_in log + draws_in log → length log ≤ most_of_all f size w log
+  pub all_few : length log ≤ most_asked f size w log (most_deleting f size w log) (most_restoring f size w log) → fetches_in log ≤ anew_in log * most_blobs w log + (most_blobs w log + lost_by log 0)
+      → ends_in log ≤ looks_in log + draws_in log → length log ≤ most_of_all f size w log
   all_few units fetches ends =
-      sum (length log) (commands_in log) (looks_in log) (draws_in log) (elections_in log) (empty_in log) (fetches_in log) (anew_in log * most_blobs w log) (most_blobs w log) (lost_by log 0) ((commands_in log + (2 * looks_in log + draws_in log)) * all_blobs f size w log) (all_blobs f size w log) (lost_in log)
-      (work_of f size (suc (elections_in log)) log + w.next_op * (suc (elections_in log) * suc most_of_drop)) ((w.next_op + asks_in log) * (suc (elections_in log) * suc (most_deleting f size w log))) (restores_in log * suc (most_restoring f size w log)) w.next_ticket
+      sum (length log) (commands_in log) (looks_in log) (draws_in log) (elections_in log) (empty_in log) (fetches_in log) (anew_in log * most_blobs w log)
+      (most_blobs w log) (lost_by log 0) ((commands_in log + (2 * looks_in log + draws_in log)) * all_blobs f size w log) (all_blobs f size w log) (lost_in log)
+      (work_of f size (suc (elections_in log)) log + w.next_op * (suc (elections_in log) * suc most_of_drop)) ((w.next_op + asks_in log) * (suc (elections_in log) * suc (most_deleting f size w log)))
+      (restores_in log * suc (most_restoring f size w log)) w.next_ticket
       units fetches (mul-le-mul (anew (anew_in log) (commands_in log) (looks_in log) (ends_in log) (draws_in log) (anew_few log) ends) blobs_few) blobs_few (lost_few log 0)
     where
       anew : (a c l n d : ℕ) → a ≤ c + (l + n) → n ≤ l + d → a ≤ c + (2 * l + d)

@@ -7,7 +7,7 @@ use Rattle.esr_core.specs.Restores.{AreOnce}
 use Rattle.esr_core.specs.Entry.{Reply, Gave, Moment}
 use Rattle.esr_bounds.specs.Keys.{made_by}
 use Rattle.esr_bounds.specs.Work.{idle_by, idle_in}
-use Rattle.esr_bounds.proofs.Few.{stands, beside}
+use Rattle.esr_bounds.proofs.Few.{stands, beside, zero_le}
 
 -- ---- weights
 
@@ -15,7 +15,7 @@ abbrev pub total : {A : Type 0} → (A → ℕ) → List A → ℕ
 total weight [] = 0
 total weight (x ∷ xs) = weight x + total weight xs
 
-none_more : (n : ℕ) → n ≡ 0 + n
+pub none_more : (n : ℕ) → n ≡ 0 + n
 none_more n = omega arith
 
 pub total_append : {A : Type 0} (weight : A → ℕ) (xs ys : List A) → total weight (xs ++ ys) ≡ total weight xs + total weight ys
@@ -31,9 +31,6 @@ total_beside weight (y ∷ front) back x = ap (λ n. weight y + n) (total_beside
   where
     swap_them : (a b c : ℕ) → a + (b + c) ≡ b + (a + c)
     swap_them a b c = omega arith
-
-zero_le : (n : ℕ) → 0 ≤ n
-zero_le n = omega arith
 
 one_up : (w a b c : ℕ) → a ≤ b → c ≡ w + b → w + a ≤ c
 one_up w a b c h e = let less : a ≤ b = h in let is : c ≡ w + b = e in omega (arith, less, is)

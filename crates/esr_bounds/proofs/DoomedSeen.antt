@@ -25,6 +25,7 @@ use Rattle.esr_core.specs.History.{world_from, is_settle, IsLegal, AllKnown, Are
 use Rattle.esr_core.specs.Laws.Histories.{legal_parts, told_parts}
 use Rattle.esr_core.specs.Laws.NewRoots.{root_one_each}
 use Rattle.esr_core.specs.Laws.NumberMaps.{nothing}
+use Rattle.esr_core.specs.Laws.CleanupReach.{and_later, and_first, listed_was}
 use Rattle.esr_law.specs.Reach.{HoldsReach}
 use Rattle.esr_bounds.specs.Keys.{made_by, IsUnheard, AreHeard, IsHeard}
 use Rattle.esr_bounds.specs.Others.{most_shards, most_blobs}
@@ -41,17 +42,10 @@ abbrev read_names : Formats → List Bytes → List BlobName
 read_names f [] = []
 read_names f (text ∷ seen) = and_name (f.names.read text) (read_names f seen)
 
-in_and : (o : Option BlobName) (names : List BlobName) (name : BlobName) → Has names name → Has (and_name o names) name
-in_and None names name h = h
-in_and (Some x) names name h = inr h
-
-first_and : (o : Option BlobName) (names : List BlobName) (name : BlobName) → o ≡ Some name → Has (and_name o names) name
-first_and o names name is = subst (λ (x : Option BlobName). Has (and_name x names) name) (sym is) (inl refl)
-
 in_names : (f : Formats) (seen : List Bytes) (text : Bytes) (name : BlobName) → Has seen text → f.names.read text ≡ Some name → Has (read_names f seen) name
 in_names f [] text name h is = absurd h
-in_names f (x ∷ seen) text name (inl e) is = first_and (f.names.read x) (read_names f seen) name (ap f.names.read e ∙ is)
-in_names f (x ∷ seen) text name (inr h) is = in_and (f.names.read x) (read_names f seen) name (in_names f seen text name h is)
+in_names f (x ∷ seen) text name (inl e) is = and_first (f.names.read x) (read_names f seen) name (ap f.names.read e ∙ is)
+in_names f (x ∷ seen) text name (inr h) is = and_later (f.names.read x) (read_names f seen) name (in_names f seen text name h is)
 
 length_and : (o : Option BlobName) (names : List BlobName) (n : ℕ) → length names ≤ n → length (and_name o names) ≤ suc n
 length_and None names n h = let less : length names ≤ n = h in omega (arith, less)
@@ -111,15 +105,6 @@ cleaned_from f number root read (x ∷ names) name h = by (reaches f number root
     by false (inl e) on = inl e
     by false (inr had) on = inr (on had)
 
-listed_from : (f : Formats) (listed : List BlobSize) (name : BlobName) → Has (names_listed f listed) name → (b : BlobSize) × Has listed b × (f.names.read b.text ≡ Some name)
-listed_from f [] name h = absurd h
-listed_from f (b ∷ listed) name h = by (f.names.read b.text) refl h (λ rest. listed_from f listed name rest)
-  where
-    by : (o : Option BlobName) → f.names.read b.text ≡ o → Has (and_name o (names_listed f listed)) name → (Has (names_listed f listed) name → (c : BlobSize) × Has listed c × (f.names.read c.text ≡ Some name)) → (c : BlobSize) × Has (b ∷ listed) c × (f.names.read c.text ≡ Some name)
-    by None is had on = let r = on had in (r.0, inr r.1, r.2)
-    by (Some x) is (inl e) on = (b, inl refl, is ∙ ap Some e)
-    by (Some x) is (inr had) on = let r = on had in (r.0, inr r.1, r.2)
-
 cleaned_listed : (f : Formats) (number : Option ℕ) (root : RootData) (read : List (BlobName × Bytes)) (listed : List BlobSize) (name : BlobName) → Has (cleaned_names f number root read listed) name → Has (names_listed f listed) name
 unfolding cleaned_names
 cleaned_listed f number root read listed name h = cleaned_from f number root read (names_listed f listed) name h
@@ -132,7 +117,8 @@ record DoomsIn (f : Formats) (seen : List Bytes) (w : World) : Type 0 where
 
 -- what each settle of a delete dooms was reached
 abbrev pub DoomLaw : Formats → Type 0
-DoomLaw f = (w : World) (shelf : List Shelved) (k : ℕ) (s : SettlesDeletion f w k) → Law f w shelf → s.t.term ≡ w.term → s.t.clean ≡ false → (name : BlobName) → Has (dooms f s.t) name → Reached f (HeldIn f w) w.root name ⊎ ((m : ℕ) × (name ≡ Root m) × (w.safe ≡ suc m))
+DoomLaw f = (w : World) (shelf : List Shelved) (k : ℕ) (s : SettlesDeletion f w k) → Law f w shelf → s.t.term ≡ w.term → s.t.clean ≡ false → (name : BlobName) → Has (dooms f s.t) name
+    → Reached f (HeldIn f w) w.root name ⊎ ((m : ℕ) × (name ≡ Root m) × (w.safe ≡ suc m))
 
 module _ (f : Formats) (w : World) (seen : List Bytes) (h : Seen seen w) (shelf : List Shelved) (law : Law f w shelf) (holds : HoldsReach f w) (dooming : DoomLaw f) where
   settle_names : (k : ℕ) (s : SettlesDeletion f w k) → s.t.term ≡ w.term → (name : BlobName) → Has (dooms f s.t) name → Has (read_names f seen) name
@@ -143,7 +129,8 @@ module _ (f : Formats) (w : World) (seen : List Bytes) (h : Seen seen w) (shelf 
           let there = holds name (in_reach f w name law.lawful.sound.carried.root_is (dooming w shelf k s law present deletes name had)) in
           in_names f seen (f.names.text name) name (h.blobs (f.names.text name) there.0 there.1.0) there.1.1.0
       by true cleans =
-          let was = listed_from f s.t.listed name (cleaned_listed f s.t.raised s.s.root (s.s.own ++ s.t.read) s.t.listed name (subst (λ (l : List BlobName). Has l name) (ap (doomed_by f s.t) s.deleting.work ∙ ap (doomed_as f s.t s.uuids s.s) cleans) had)) in
+          let was = listed_was f s.t.listed name
+          (cleaned_listed f s.t.raised s.s.root (s.s.own ++ s.t.read) s.t.listed name (subst (λ (l : List BlobName). Has l name) (ap (doomed_by f s.t) s.deleting.work ∙ ap (doomed_as f s.t s.uuids s.s) cleans) had)) in
           in_names f seen was.0.text name (h.listed k s.t was.0 s.may.out.there was.1) was.2
 
   abbrev Keeps : World → Type 0
@@ -256,8 +243,11 @@ snoc : (f : Formats) (before : List Moment) (m : Moment) (w : World) → world_f
 snoc f [] m w = refl
 snoc f (x ∷ before) m w = snoc f before m (after f w x)
 
-module _ (f : Formats) (size : ℕ) (known : AllKnown f) (laws : StepLaws f size) (masters : MasterLaws f size) (blobs_change : (w : World) (m : Moment) (i : Image) → m.image ≡ Some i → Allowed f size w m → BlobsChange f w m.entry.step i.blobs) (dooming : DoomLaw f) (holds : (w : World) (shelf : List Shelved) → Law f w shelf → HoldsReach f w) where
-  dooms_now : (w : World) (m : Moment) → Tracked w → ReadTracked w → Allowed f size w m → (IsUnheard m.entry.reply → ⊥) → Tells m.image → NoneAtZero w → (shelf : List Shelved) → Law f w shelf → (seen : List Bytes) → DoomsIn f seen w → DoomsIn f (seen ++ written f m.entry.step) (after f w m)
+module _ (f : Formats) (size : ℕ) (known : AllKnown f) (laws : StepLaws f size) (masters : MasterLaws f size)
+    (blobs_change : (w : World) (m : Moment) (i : Image) → m.image ≡ Some i → Allowed f size w m → BlobsChange f w m.entry.step i.blobs)
+    (dooming : DoomLaw f) (holds : (w : World) (shelf : List Shelved) → Law f w shelf → HoldsReach f w) where
+  dooms_now : (w : World) (m : Moment) → Tracked w → ReadTracked w → Allowed f size w m → (IsUnheard m.entry.reply → ⊥) → Tells m.image → NoneAtZero w → (shelf : List Shelved) → Law f w shelf → (seen : List Bytes)
+      → DoomsIn f seen w → DoomsIn f (seen ++ written f m.entry.step) (after f w m)
   dooms_now w m tracked reads a heard told none shelf law seen h = record {
     seen_in = seen_now f size known laws blobs_change w m tracked reads a heard told none seen h.seen_in;
     doomed = λ name had. ⊎_elim
@@ -269,7 +259,8 @@ module _ (f : Formats) (size : ℕ) (known : AllKnown f) (laws : StepLaws f size
       alive : Allows f size w m.entry.who m.entry.step m.entry.reply m.image
       alive = (looked_at f size laws w m a heard).1
 
-      by : (name : BlobName) → Has (answered f w m.entry.who m.entry.step m.entry.reply m.image).doomed name → (m.entry.step ≡ ReadStep (CommitTest name)) ⊎ (is_settle m.entry.step ≡ true) → Has (read_names f (seen ++ written f m.entry.step)) name
+      by : (name : BlobName) → Has (answered f w m.entry.who m.entry.step m.entry.reply m.image).doomed name → (m.entry.step ≡ ReadStep (CommitTest name)) ⊎ (is_settle m.entry.step ≡ true)
+          → Has (read_names f (seen ++ written f m.entry.step)) name
       by name had (inl commit) =
           in_names f (seen ++ written f m.entry.step) (f.names.text name) name
           (Has-right seen (written f m.entry.step) (f.names.text name) (subst (λ (s : Step). Has (written f s) (f.names.text name)) (sym commit) (inl refl)))
@@ -279,8 +270,8 @@ module _ (f : Formats) (size : ℕ) (known : AllKnown f) (laws : StepLaws f size
           (by_settle f w seen h.seen_in shelf law (holds w shelf law) dooming size m.entry.who m.entry.step m.entry.reply m.image settle alive name had))
 
   module _ (first : World) (whole : List Moment) (law_at : (before rest : List Moment) → before ++ rest ≡ whole → (shelf : List Shelved) × Law f (world_from f first before) shelf) where
-    dooms_from : (before : List Moment) (w : World) (log : List Moment) (seen : List Bytes) → before ++ log ≡ whole → world_from f first before ≡ w → Tracked w → ReadTracked w → IsLegal f size w log → AreHeard log → AreTold log → NoneAtZero w → DoomsIn f seen w
-        → DoomsIn f (seen ++ all_written f log) (world_from f w log)
+    dooms_from : (before : List Moment) (w : World) (log : List Moment) (seen : List Bytes) → before ++ log ≡ whole → world_from f first before ≡ w → Tracked w → ReadTracked w → IsLegal f size w log → AreHeard log → AreTold log
+        → NoneAtZero w → DoomsIn f seen w → DoomsIn f (seen ++ all_written f log) (world_from f w log)
     dooms_from before w [] seen is same tracked reads legal heard told none h = subst (λ (l : List Bytes). DoomsIn f l w) (sym (append-nil seen)) h
     dooms_from before w (m ∷ log) seen is same tracked reads legal heard told none h =
         let law = law_at before (m ∷ log) is in
@@ -289,7 +280,8 @@ module _ (f : Formats) (size : ℕ) (known : AllKnown f) (laws : StepLaws f size
         (laws.tracks w m tracked legal.0) (laws.reads w m tracked reads legal.0) legal.1 (λ n had. heard n (inr had)) told.1 (still_none f size laws w m tracked none)
         (dooms_now w m tracked reads legal.0 (heard m (inl refl)) told.0 none law.0 (subst (λ (x : World). Law f x law.0) same law.1) seen h))
 
-  pub delete_closed : (w : World) (log : List Moment) (h : IsHeard f size w log) (told : AreTold log) → ((before rest : List Moment) → before ++ rest ≡ log → (shelf : List Shelved) × Law f (world_from f w before) shelf) → w.doomed ≡ [] → IsOneEach w.root.indices
+  pub delete_closed : (w : World) (log : List Moment) (h : IsHeard f size w log) (told : AreTold log) → ((before rest : List Moment) → before ++ rest ≡ log → (shelf : List Shelved) × Law f (world_from f w before) shelf) → w.doomed ≡ []
+      → IsOneEach w.root.indices
       → (k : ℕ) (t : Ticket) (uuids : List ℕ) (plan : Option Swap) → 1 ≤ k → fin.get (world_from f w log).tickets k ≡ Some t → t.work ≡ Deleting uuids plan → made_by log k ≤ 15 + (3 * most_shards w log + 2 * most_blobs w log)
   delete_closed w log h told law_at undoomed one_each k t uuids plan some there is =
       sum (made_by log k) (most_shards w log) (length t.listed) (length (read_names f seen)) (length seen) (most_blobs w log)

@@ -28,7 +28,7 @@ one_less (y ∷ front) back x = ap suc (one_less front back x)
 up_one : (a b c : ℕ) → a ≤ b → c ≡ suc b → suc a ≤ c
 up_one a b c h e = let less : a ≤ b = h in let is : c ≡ suc b = e in omega (arith, less, is)
 
-zero_le : (n : ℕ) → 0 ≤ n
+pub zero_le : (n : ℕ) → 0 ≤ n
 zero_le n = omega arith
 
 pub few_once : {A : Type 0} (xs ys : List A) → AreOnce xs → ((x : A) → Has xs x → Has ys x) → length xs ≤ length ys

@@ -1,5 +1,5 @@
 -- A cleanup dooms no more names than it lists, so its ticket has made few steps.
-use Rattle.std.proofs.Common.{◌≡◌, ℕ, suc, ◌+◌, ◌*◌, ◌≤◌, List, [], ◌∷◌, ◌++◌, length, Bool, true, false, Option, Some, None, sym, subst, arith}
+use Rattle.std.proofs.Common.{◌≡◌, ℕ, suc, ◌+◌, ◌*◌, ◌≤◌, List, [], ◌∷◌, ◌++◌, length, Bool, true, false, Option, Some, None, sym, subst, arith, le_refl}
 use Rattle.std.specs.Prelude.{if◌then◌else◌}
 use Rattle.esr_model.specs.Names.{BlobName}
 use Rattle.esr_model.specs.Values.{Bytes, RootData, Formats}
@@ -10,17 +10,14 @@ use Rattle.esr_core.specs.Entry.{Moment}
 use Rattle.esr_bounds.specs.Keys.{made_by}
 use Rattle.esr_bounds.specs.Others.{most_shards, most_by_shards, most_blobs}
 
-same_le : (n : ℕ) → n ≤ n
-same_le n = omega arith
-
-one_more : (a b : ℕ) → a ≤ b → suc a ≤ suc b
+pub one_more : (a b : ℕ) → a ≤ b → suc a ≤ suc b
 one_more a b h = let less : a ≤ b = h in omega (arith, less)
 
 as_many : (a b : ℕ) → a ≤ b → a ≤ suc b
 as_many a b h = let less : a ≤ b = h in omega (arith, less)
 
 unreached_few : (f : Formats) (number : Option ℕ) (root : RootData) (read : List (BlobName × Bytes)) (names : List BlobName) → length (unreached f number root read names) ≤ length names
-unreached_few f number root read [] = same_le 0
+unreached_few f number root read [] = le_refl 0
 unreached_few f number root read (name ∷ names) = by (reaches f number root read name) (unreached_few f number root read names)
   where
     by : (b : Bool) → length (unreached f number root read names) ≤ length names → length (if b then unreached f number root read names else name ∷ unreached f number root read names) ≤ suc (length names)
@@ -28,7 +25,7 @@ unreached_few f number root read (name ∷ names) = by (reaches f number root re
     by false rest = one_more (length (unreached f number root read names)) (length names) rest
 
 names_few : (f : Formats) (listed : List BlobSize) → length (names_listed f listed) ≤ length listed
-names_few f [] = same_le 0
+names_few f [] = le_refl 0
 names_few f (b ∷ listed) = by (f.names.read b.text) (names_few f listed)
   where
     by : (o : Option BlobName) → length (names_listed f listed) ≤ length listed → length (and_name o (names_listed f listed)) ≤ suc (length listed)
@@ -52,8 +49,8 @@ doomed_few f t uuids plan is clean = subst (λ (work : Work). length (doomed_by 
     by None = none (length t.listed)
     by (Some s) = subst (λ (b : Bool). length (doomed_as f t uuids s b) ≤ length t.listed) (sym clean) (cleaned_few f t.raised s.root (s.own ++ t.read) t.listed)
 
-pub cleanup_few : (f : Formats) (w : World) (log : List Moment) (k : ℕ) (t : Ticket) (uuids : List ℕ) (plan : Option Swap) → t.work ≡ Deleting uuids plan → t.clean ≡ true → made_by log k ≤ most_by_shards f w log t → length t.listed ≤ most_blobs w log
-    → made_by log k ≤ 15 + (3 * most_shards w log + 2 * most_blobs w log)
+pub cleanup_few : (f : Formats) (w : World) (log : List Moment) (k : ℕ) (t : Ticket) (uuids : List ℕ) (plan : Option Swap) → t.work ≡ Deleting uuids plan → t.clean ≡ true → made_by log k ≤ most_by_shards f w log t
+    → length t.listed ≤ most_blobs w log → made_by log k ≤ 15 + (3 * most_shards w log + 2 * most_blobs w log)
 cleanup_few f w log k t uuids plan is clean made listed =
     sum (made_by log k) (most_shards w log) (length t.listed) (length (dooms f t)) (most_blobs w log) made (doomed_few f t uuids plan is clean) listed
   where

@@ -20,11 +20,11 @@ use Rattle.esr_bounds.specs.Units.{count_asked, shards_by, shards_in}
 use Rattle.esr_bounds.specs.Others.{shard_indices, generation_names, most_shards, most_by_shards}
 use Rattle.esr_bounds.specs.Laws.{StepLaws, MasterLaws}
 use Rattle.esr_bounds.proofs.Few.{few_once}
-use Rattle.esr_bounds.proofs.Further.{IsPlan}
+use Rattle.esr_bounds.proofs.Further.{IsPlan, plus_none, none_plus, shift}
 use Rattle.esr_bounds.proofs.Prunes.{pruned_last, few_by}
 use Rattle.esr_bounds.proofs.Items.{item_of, asked_items, all_items}
 use Rattle.esr_bounds.proofs.Totals.{length_places}
-use Rattle.esr_bounds.proofs.RootShards.{RootIn, plan_places, plus_none, shift, none_plus, Placed, item_place, places_of, name_place, first_places, placed_last}
+use Rattle.esr_bounds.proofs.RootShards.{RootIn, plan_places, Placed, item_place, places_of, name_place, first_places, placed_last}
 
 -- ---- the index of each place
 
@@ -51,7 +51,8 @@ index_name root p = ShardIndex p.0 p.1 (gen_or (at_shard_of (index_at root.indic
 in_places : (places : List (ℕ × ℕ)) (root : RootData) → IsOneEach root.indices → RootIn places root → (name : BlobName) → Has (generation_names root.indices) name → Has (map (index_name root) places) name
 in_places places root one h name had =
     let r = of_generations root.indices name had in
-    let is : index_name root (r.0.id, r.2) ≡ name = ap (λ (o : Option RootIndex). ShardIndex r.0.id r.2 (gen_or (at_shard_of o r.2))) (one_found root.indices one r.0 r.1 r.0.id refl) ∙ ap (λ (o : Option ℕ). ShardIndex r.0.id r.2 (gen_or o)) r.4 ∙ r.5 in
+    let is : index_name root (r.0.id, r.2) ≡ name =
+    ap (λ (o : Option RootIndex). ShardIndex r.0.id r.2 (gen_or (at_shard_of o r.2))) (one_found root.indices one r.0 r.1 r.0.id refl) ∙ ap (λ (o : Option ℕ). ShardIndex r.0.id r.2 (gen_or o)) r.4 ∙ r.5 in
     subst (Has (map (index_name root) places)) is (Has-map (index_name root) places (r.0.id, r.2) (h r.0 r.2 r.3 r.1 r.4))
 
 -- ---- a plan has no more shards than there are places
@@ -108,7 +109,8 @@ length_items w step = refl
 length_all : (f : Formats) (w : World) (log : List Moment) → length (all_items f w log) ≡ shards_in log
 length_all f w [] = refl
 length_all f w (m ∷ log) =
-    length-append (asked_items w m.entry.step) (all_items f (after f w m) log) ∙ ap (λ (n : ℕ). n + length (all_items f (after f w m) log)) (length_items w m.entry.step) ∙ ap (λ (n : ℕ). shards_by m.entry.step + n) (length_all f (after f w m) log)
+    length-append (asked_items w m.entry.step) (all_items f (after f w m) log) ∙ ap (λ (n : ℕ). n + length (all_items f (after f w m) log)) (length_items w m.entry.step)
+    ∙ ap (λ (n : ℕ). shards_by m.entry.step + n) (length_all f (after f w m) log)
 
 pub length_of : (f : Formats) (w : World) (log : List Moment) → length (places_of (first_places w.root) (all_items f w log)) ≡ most_shards w log
 length_of f w log =
@@ -119,9 +121,10 @@ length_of f w log =
 -- ---- the ticket of a delete or cleanup
 
 -- where it dooms these names
-pub delete_by_names : (f : Formats) (size : ℕ) (known : AllKnown f) (laws : StepLaws f size) (masters : MasterLaws f size) (w : World) (log : List Moment) (h : IsHeard f size w log) (told : AreTold log) → IsOneEach w.root.indices → (k : ℕ) (t : Ticket) (some : 1 ≤ k)
-    → (there : fin.get (world_from f w log).tickets k ≡ Some t) (doomed : List BlobName) → ((name : BlobName) → t.settled ≡ true → Has (dooms f t) name → Has doomed name) → (uuids : List ℕ) (plan : Option Swap) → t.work ≡ Deleting uuids plan
-    → made_by log k ≤ 15 + (3 * most_shards w log + (length t.listed + length doomed))
+pub delete_by_names : (f : Formats) (size : ℕ) (known : AllKnown f) (laws : StepLaws f size) (masters : MasterLaws f size) (w : World) (log : List Moment) (h : IsHeard f size w log) (told : AreTold log) → IsOneEach w.root.indices
+    → (k : ℕ) (t : Ticket) (some : 1 ≤ k)
+    → (there : fin.get (world_from f w log).tickets k ≡ Some t) (doomed : List BlobName) → ((name : BlobName) → t.settled ≡ true → Has (dooms f t) name → Has doomed name) → (uuids : List ℕ) (plan : Option Swap)
+    → t.work ≡ Deleting uuids plan → made_by log k ≤ 15 + (3 * most_shards w log + (length t.listed + length doomed))
 delete_by_names f size known laws masters w log h told one_each k t some there doomed gone uuids plan is =
     subst (λ (n : ℕ). made_by log k ≤ 15 + (3 * n + (length t.listed + length doomed))) (length-map all (index_name t.root) ∙ length_of f w log)
     (few_by f size known laws masters w log h told k t some there (map (index_name t.root) all) doomed (in_places all t.root ticket.1 ticket.0) gone uuids plan is
@@ -136,6 +139,6 @@ delete_by_names f size known laws masters w log h told one_each k t some there d
     ticket : RootIn all t.root × IsOneEach t.root.indices
     ticket = placed.tickets k t there
 
-pub delete_by_shards : (f : Formats) (size : ℕ) (known : AllKnown f) (laws : StepLaws f size) (masters : MasterLaws f size) (w : World) (log : List Moment) (h : IsHeard f size w log) (told : AreTold log) → IsOneEach w.root.indices → (k : ℕ) (t : Ticket) (some : 1 ≤ k)
-    → (there : fin.get (world_from f w log).tickets k ≡ Some t) (uuids : List ℕ) (plan : Option Swap) → t.work ≡ Deleting uuids plan → made_by log k ≤ most_by_shards f w log t
+pub delete_by_shards : (f : Formats) (size : ℕ) (known : AllKnown f) (laws : StepLaws f size) (masters : MasterLaws f size) (w : World) (log : List Moment) (h : IsHeard f size w log) (told : AreTold log) → IsOneEach w.root.indices
+    → (k : ℕ) (t : Ticket) (some : 1 ≤ k) → (there : fin.get (world_from f w log).tickets k ≡ Some t) (uuids : List ℕ) (plan : Option Swap) → t.work ≡ Deleting uuids plan → made_by log k ≤ most_by_shards f w log t
 delete_by_shards f size known laws masters w log h told one_each k t some there uuids plan is = delete_by_names f size known laws masters w log h told one_each k t some there (dooms f t) (λ name settled had. had) uuids plan is

@@ -3,7 +3,6 @@
 use Rattle.std.proofs.Common.{◌≡◌, ◌⊎◌, ℕ, suc, ◌+◌, ◌≤◌, List, [], ◌∷◌, ◌++◌, append-nil, append_assoc, length, Option, Some, refl, sym, ap, ◌∙◌, subst, inl, inr, ⊎_elim, arith}
 use Rattle.std.specs.Prelude.{if◌then◌else◌}
 use Rattle.std.proofs.lemmas.Bool.Decides.{eqb_tells}
-use Rattle.std.proofs.lemmas.Option.{same_Some}
 use Rattle.std.proofs.lemmas.List.{length-append}
 use Rattle.std.specs.FinMap as fin
 use Rattle.esr_model.specs.Lists.{Has-left, Has-either, Has-mapped}
@@ -28,6 +27,7 @@ use Rattle.esr_bounds.proofs.Bounded.{made_length}
 use Rattle.esr_bounds.proofs.Prunes.{Tells, told_is}
 use Rattle.esr_bounds.proofs.Pieces.{reader_keys, few_last}
 use Rattle.esr_bounds.proofs.Listed.{texts, in_texts, written, all_written, length_seen, SeenBlobs, blobs_now}
+use Rattle.esr_bounds.proofs.Checks.{one_name}
 
 -- ---- what a step has found
 
@@ -144,15 +144,13 @@ of_texts f (e ∷ es) text h = ⊎_elim
 was_found : (f : Formats) (seen : List Bytes) (step : Step) (reply : Reply) (text : Bytes) (o : OfText f step reply text) → FoundAt f seen step reply → IsStored f o.name × Has seen (f.names.text o.name)
 was_found f seen step reply text o h = subst (λ (r : Reply). FoundAt f seen (ReadStep (ReadBlob o.name)) r) o.reply_is (subst (λ (s : Step). FoundAt f seen s reply) o.step_is h)
 
-has_key : (es : List Entry) (e : Entry) → Has es e → Has (keys es) (key e.step)
+pub has_key : (es : List Entry) (e : Entry) → Has es e → Has (keys es) (key e.step)
 has_key [] e h = absurd h
 has_key (x ∷ es) e (inl is) = inl (ap (λ (y : Entry). key y.step) is)
 has_key (x ∷ es) e (inr h) = inr (has_key es e h)
 
-one_name : (f : Formats) (a b : BlobName) → IsStored f a → IsStored f b → f.names.text a ≡ f.names.text b → a ≡ b
-one_name f a b p q same = same_Some a b (sym p.0 ∙ ap f.names.read same ∙ q.0)
-
-one_once : (f : Formats) (seen : List Bytes) (step : Step) (reply : Reply) (es : List Entry) → (Has (keys es) (key step) → ⊥) → FoundAt f seen step reply → ((e : Entry) → Has es e → FoundAt f seen e.step e.reply) → AreOnce (found_texts f es) → AreOnce (texts_at f step reply ++ found_texts f es)
+one_once : (f : Formats) (seen : List Bytes) (step : Step) (reply : Reply) (es : List Entry) → (Has (keys es) (key step) → ⊥) → FoundAt f seen step reply → ((e : Entry) → Has es e → FoundAt f seen e.step e.reply)
+    → AreOnce (found_texts f es) → AreOnce (texts_at f step reply ++ found_texts f es)
 one_once f seen (ReadStep (ReadBlob name)) WasFetched es fresh found all once = (
   (λ had.
       let r = of_texts f es (f.names.text name) had in
@@ -264,10 +262,11 @@ module _ (f : Formats) (size : ℕ) (laws : StepLaws f size) where
           subst (λ (n : ℕ). entries_by (with_entry w.entries m.entry) n ≡ m.entry ∷ entries_by w.entries n) mine
           (laws.own w.entries m.entry (counted m.entry.reply (heard m (inl refl))) (never_anew m.entry.who m.entry.step (subst (λ (n : ℕ). 1 ≤ n) (sym mine) some)))
 
-  pub restore_found : ((w : World) (m : Moment) (i : Image) → m.image ≡ Some i → Allowed f size w m → BlobsChange f w m.entry.step i.blobs) → (w : World) (log : List Moment) → IsHeard f size w log → AreTold log → (k : ℕ) (q : Reader) → 1 ≤ k → fin.get (world_from f w log).readers k ≡ Some q
-      → made_by log k ≤ 1 + (most_blobs w log + lost_by log k)
+  pub restore_found : ((w : World) (m : Moment) (i : Image) → m.image ≡ Some i → Allowed f size w m → BlobsChange f w m.entry.step i.blobs) → (w : World) (log : List Moment) → IsHeard f size w log → AreTold log
+      → (k : ℕ) (q : Reader) → 1 ≤ k → fin.get (world_from f w log).readers k ≡ Some q → made_by log k ≤ 1 + (most_blobs w log + lost_by log k)
   restore_found change w log h told k q some there =
-      sum (made_by log k) (length (entries_by w.entries k)) (length es) (length (found_texts f es)) (losts es) (ends (keys es)) (lost_by log k) (losts (entries_by w.entries k)) (length seen) (most_blobs w log) (made_length f size laws w log k some h.heard)
+      sum (made_by log k) (length (entries_by w.entries k)) (length es) (length (found_texts f es)) (losts es) (ends (keys es))
+      (lost_by log k) (losts (entries_by w.entries k)) (length seen) (most_blobs w log) (made_length f size laws w log k some h.heard)
       (steps_few f es (λ e had. kind_of f q e.step ((few_last f size laws w log h told).listed k q (key e.step) some there (has_key es e had))))
       (few_once (found_texts f es) seen (texts_once f seen es once (λ e had. last.found k e some had)) (λ x had. let r = of_texts f es x had in subst (Has seen) r.2.text_is (was_found f seen r.0.step r.0.reply x r.2 (last.found k r.0 some r.1)).1))
       (ends_few (keys es) once) (lost_made w log k some h.heard) (ap (λ (xs : List Entry). losts (entries_by xs k)) h.untouched.entries) (length_seen f w log)
@@ -290,7 +289,8 @@ module _ (f : Formats) (size : ℕ) (laws : StepLaws f size) where
       last : FoundIn f seen (world_from f w log)
       last = found_from f size laws change w log (texts w.blobs) h.legal h.heard told start
 
-      sum : (made before entries found lost ended by start seen most : ℕ) → entries ≡ made + before → entries ≤ found + (lost + ended) → found ≤ seen → ended ≤ 1 → lost ≡ by + start → start ≡ 0 → seen ≡ most → made ≤ 1 + (most + by)
+      sum : (made before entries found lost ended by start seen most : ℕ) → entries ≡ made + before → entries ≤ found + (lost + ended) → found ≤ seen → ended ≤ 1 → lost ≡ by + start → start ≡ 0 → seen ≡ most
+          → made ≤ 1 + (most + by)
       sum made before entries found lost ended by start seen most a b c d e g i =
           let one : entries ≡ made + before = a in
           let two : entries ≤ found + (lost + ended) = b in

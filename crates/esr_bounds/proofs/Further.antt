@@ -19,13 +19,13 @@ use Rattle.esr_bounds.proofs.Names.{bare}
 
 -- ---- the shards of a root
 
-plus_none : (n : ℕ) → n ≡ n + 0
+pub plus_none : (n : ℕ) → n ≡ n + 0
 plus_none n = omega arith
 
-none_plus : (n : ℕ) → 0 + n ≡ n
+pub none_plus : (n : ℕ) → 0 + n ≡ n
 none_plus n = omega arith
 
-shift : (a b : ℕ) → suc a + b ≡ a + suc b
+pub shift : (a b : ℕ) → suc a + b ≡ a + suc b
 shift a b = omega arith
 
 in_shards : (index first : ℕ) (generations : List (Option ℕ)) (n g : ℕ) → at_shard generations n ≡ Some g → Has (shard_indices index first generations) (ShardIndex index (first + n) g)
@@ -87,7 +87,8 @@ few_blobs f read listed next (p ∷ shards) = by p.kept (few_blobs f read listed
     as_many : (a b : ℕ) → a ≤ b → a ≤ suc b
     as_many a b h = let less : a ≤ b = h in omega (arith, less)
 
-    by : (kept : Bool) → length (pruned_blobs f read listed (suc next) shards) ≤ length shards → length (pruned_blobs f read listed next shards) ≤ length shards → length (if kept then (ShardIndex p.index p.number next, left_text f listed (files_read f read p)) ∷ pruned_blobs f read listed (suc next) shards else pruned_blobs f read listed next shards) ≤ suc (length shards)
+    by : (kept : Bool) → length (pruned_blobs f read listed (suc next) shards) ≤ length shards → length (pruned_blobs f read listed next shards) ≤ length shards
+        → length (if kept then (ShardIndex p.index p.number next, left_text f listed (files_read f read p)) ∷ pruned_blobs f read listed (suc next) shards else pruned_blobs f read listed next shards) ≤ suc (length shards)
     by true left right = one_more (length (pruned_blobs f read listed (suc next) shards)) (length shards) left
     by false left right = as_many (length (pruned_blobs f read listed next shards)) (length shards) right
 

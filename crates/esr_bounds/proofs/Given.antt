@@ -188,7 +188,8 @@ out_now k index number z s is index_is number_is pending = by ((z.ref.id == inde
 
 -- ---- a step
 
-module _ (f : Formats) (size : ℕ) (change : (w : World) (who : ℕ) (step : Step) (reply : Reply) (image : Option Image) → StepChange f w who step (answered f w who step reply image)) (frame : (w : World) (m : Moment) → StepFrame w (after f w m) m.entry.who m.entry.step) where
+module _ (f : Formats) (size : ℕ) (change : (w : World) (who : ℕ) (step : Step) (reply : Reply) (image : Option Image) → StepChange f w who step (answered f w who step reply image))
+    (frame : (w : World) (m : Moment) → StepFrame w (after f w m) m.entry.who m.entry.step) where
   -- what was refused before it was looked at changes nothing
   pub blocked_same : (w : World) (m : Moment) → IsBlocked w m → answered f w m.entry.who m.entry.step m.entry.reply m.image ≡ w
   blocked_same w m b = ap (λ (r : Reply). answered f w m.entry.who m.entry.step r m.image) b.refused ∙ leaves b.refusal b.blocks
@@ -259,7 +260,8 @@ module _ (f : Formats) (size : ℕ) (change : (w : World) (who : ℕ) (step : St
         apart : (j : ℕ) (t u v : Ticket) (index number : ℕ) → fin.get w.tickets j ≡ Some t → SameUnit t u → u.work ≡ Shard index number → FreshShard w (after f w m).ops v → v.work ≡ Shard index number → u.op ≡ v.op → ⊥
         apart j t u v index number there same is fresh also one =
             let shard : Shard fresh.s.ref.id fresh.s.number ≡ Shard index number = sym fresh.work ∙ also in
-            h.past j t index number there (same_work t u index number same is) fresh.op fresh.s (ap (fin.get w.ops) (sym same.op ∙ one) ∙ fresh.there) fresh.s_there (first_of fresh.s.ref.id fresh.s.number shard) (second_of fresh.s.ref.id fresh.s.number shard) fresh.pending
+            h.past j t index number there (same_work t u index number same is) fresh.op fresh.s (ap (fin.get w.ops) (sym same.op ∙ one) ∙ fresh.there) fresh.s_there
+            (first_of fresh.s.ref.id fresh.s.number shard) (second_of fresh.s.ref.id fresh.s.number shard) fresh.pending
           where
             first_of : (i n : ℕ) → Shard i n ≡ Shard index number → i ≡ index
             first_of i n e = cc

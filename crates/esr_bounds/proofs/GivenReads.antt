@@ -176,7 +176,8 @@ read_now k index number z s is index_is number_is unread = by ((z.ref.id == inde
 
 -- ---- a step
 
-module _ (f : Formats) (size : ℕ) (change : (w : World) (who : ℕ) (step : Step) (reply : Reply) (image : Option Image) → StepChange f w who step (answered f w who step reply image)) (frame : (w : World) (m : Moment) → StepFrame w (after f w m) m.entry.who m.entry.step) where
+module _ (f : Formats) (size : ℕ) (change : (w : World) (who : ℕ) (step : Step) (reply : Reply) (image : Option Image) → StepChange f w who step (answered f w who step reply image))
+    (frame : (w : World) (m : Moment) → StepFrame w (after f w m) m.entry.who m.entry.step) where
   module _ (w : World) (m : Moment) (reads : ReadTracked w) (a : Allowed f size w m) (h : ReadOnce w) where
     pub come : (k : ℕ) (v : Reader) → fin.get (after f w m).readers k ≡ Some v → WasReader w k v ⊎ ((k ≡ w.next_ticket) × (m.entry.step ≡ TakeStep))
     come = readers_come f w m.entry.who m.entry.step (answered f w m.entry.who m.entry.step m.entry.reply m.image) (change w m.entry.who m.entry.step m.entry.reply m.image)
@@ -213,7 +214,8 @@ module _ (f : Formats) (size : ℕ) (change : (w : World) (who : ℕ) (step : St
     given_past : (v : Reader) → FreshRead w (after f w m).restores v → IsPastRead (after f w m).restores v.op v.index v.number
     given_past v fresh r s there had index_is number_is unread =
         let now : record fresh.r { shards = map (handed w.next_ticket fresh.s.ref.id fresh.s.number) fresh.r.shards } ≡ r =
-        same_Some _ r (sym (same_in w.restores v.op (record fresh.r { shards = map (handed w.next_ticket fresh.s.ref.id fresh.s.number) fresh.r.shards })) ∙ ap (λ (x : FinMap nat_cmp Restoring). fin.get x v.op) (sym fresh.restores_are) ∙ there) in
+        same_Some _ r
+        (sym (same_in w.restores v.op (record fresh.r { shards = map (handed w.next_ticket fresh.s.ref.id fresh.s.number) fresh.r.shards })) ∙ ap (λ (x : FinMap nat_cmp Restoring). fin.get x v.op) (sym fresh.restores_are) ∙ there) in
         let z = Has-mapped (handed w.next_ticket fresh.s.ref.id fresh.s.number) fresh.r.shards s (subst (λ (x : Restoring). Has x.shards s) (sym now) had) in
         read_now w.next_ticket fresh.s.ref.id fresh.s.number z.0 s z.2 (index_is ∙ fresh.index) (number_is ∙ fresh.number) unread
 

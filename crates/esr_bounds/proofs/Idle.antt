@@ -4,6 +4,7 @@ use Rattle.std.specs.Prelude.{if◌then◌else◌}
 use Rattle.esr_model.specs.Names.{BlobName, TestMaster, TestNode}
 use Rattle.esr_model.specs.Values.{Has, Formats}
 use Rattle.std.specs.FinMap as fin
+use Rattle.std.proofs.lemmas.Bool.{cases_Bool}
 use Rattle.esr_core.specs.World.{World, Ticket}
 use Rattle.esr_core.specs.Past.{Repeats, IsNewStep, with_entry, begins_anew, entries_by}
 use Rattle.esr_core.specs.Tracked.{Tracked}
@@ -48,10 +49,6 @@ anew_bare (ReadStep (RemoveTests [])) anew = absurd cc
 anew_bare (ReadStep (RemoveTests (name ∷ names))) anew = refl
 anew_bare (ReadStep read) anew = refl
 anew_bare step anew = refl
-
-one_or : (b : Bool) → (b ≡ true) ⊎ (b ≡ false)
-one_or true = inl refl
-one_or false = inr refl
 
 -- one since who 0 began anew
 abbrev OneBare : World → Type 0
@@ -132,7 +129,7 @@ module _ (f : Formats) (size : ℕ) (steps : StepLaws f size) where
               (none_bare (entries_by w.entries 0) (subst (λ (s : Step). (e : Entry) → Has (entries_by w.entries 0) e → Repeats e.step s → ⊥) bare (new nobody)))
 
       by : (who : ℕ) → m.entry.who ≡ who → Bared w m
-      by zero is = elim (one_or (begins_anew 0 m.entry.step)) [ inl begins ↦ anew is begins | inr old ↦ goes_on is old ]
+      by zero is = elim (cases_Bool (begins_anew 0 m.entry.step)) [ inl begins ↦ anew is begins | inr old ↦ goes_on is old ]
       by (suc k) is = kept k is (steps.others w.entries m.entry 0 (λ nobody. let clash : 0 ≡ suc k = nobody ∙ is in absurd (omega (arith, clash))))
 
   bared : (w : World) (log : List Moment) → IsLegal f size w log → AreHeard log → OneBare w → bare_in log + bares (entries_by w.entries 0) ≤ anew_in log + 1
@@ -211,13 +208,15 @@ module _ (f : Formats) (size : ℕ) (steps : StepLaws f size) where
       by zero is = subst (λ (who : ℕ). Counts who m.entry.step m.entry.reply) (sym is) (counts_client m.entry.step m.entry.reply (client_step w m reads none_at a heard is))
       by (suc k) is =
           subst (λ (who : ℕ). Counts who m.entry.step m.entry.reply) (sym is)
-          (none_le (anew_by (suc k) m.entry.step + (elections_by m.entry.step + (empty_by (suc k) m.entry.step m.entry.reply + (draws_by (suc k) m.entry.step + (tests_by (suc k) m.entry.step + (bare_by (suc k) m.entry.step + fetches_by (suc k) m.entry.step)))))))
+          (none_le (anew_by (suc k) m.entry.step
+          + (elections_by m.entry.step + (empty_by (suc k) m.entry.step m.entry.reply + (draws_by (suc k) m.entry.step + (tests_by (suc k) m.entry.step + (bare_by (suc k) m.entry.step + fetches_by (suc k) m.entry.step)))))))
 
   idle_few : (w : World) (log : List Moment) → Tracked w → ReadTracked w → NoneAtZero w → IsLegal f size w log → AreHeard log
       → idle_in log ≤ anew_in log + (elections_in log + (empty_in log + (draws_in log + (tests_in log + (bare_in log + fetches_in log)))))
   idle_few w [] tracked reads none legal heard = let is : 0 ≤ 0 + (0 + (0 + (0 + (0 + (0 + 0))))) = omega arith in is
   idle_few w (m ∷ log) tracked reads none legal heard =
-      both (idle_by m.entry.who m.entry.reply) (anew_by m.entry.who m.entry.step) (elections_by m.entry.step) (empty_by m.entry.who m.entry.step m.entry.reply) (draws_by m.entry.who m.entry.step) (tests_by m.entry.who m.entry.step) (bare_by m.entry.who m.entry.step) (fetches_by m.entry.who m.entry.step)
+      both (idle_by m.entry.who m.entry.reply) (anew_by m.entry.who m.entry.step) (elections_by m.entry.step) (empty_by m.entry.who m.entry.step m.entry.reply)
+      (draws_by m.entry.who m.entry.step) (tests_by m.entry.who m.entry.step) (bare_by m.entry.who m.entry.step) (fetches_by m.entry.who m.entry.step)
       (idle_in log) (anew_in log) (elections_in log) (empty_in log) (draws_in log) (tests_in log) (bare_in log) (fetches_in log) (counts_one w m reads none legal.0 (heard m (inl refl)))
       (idle_few (after f w m) log (steps.tracks w m tracked legal.0) (steps.reads w m tracked reads legal.0) (still_none w m tracked none) legal.1 (λ n h. heard n (inr h)))
     where
@@ -243,14 +242,16 @@ anew_one (suc k) step = let is : 0 ≤ 0 + (0 + 0) = omega arith in is
 pub anew_few : (log : List Moment) → anew_in log ≤ commands_in log + (looks_in log + ends_in log)
 anew_few [] = let is : 0 ≤ 0 + (0 + 0) = omega arith in is
 anew_few (m ∷ log) =
-    both (anew_by m.entry.who m.entry.step) (commands_by m.entry.who m.entry.step) (looks_by m.entry.who m.entry.step) (ends_by m.entry.who m.entry.step) (anew_in log) (commands_in log) (looks_in log) (ends_in log) (anew_one m.entry.who m.entry.step) (anew_few log)
+    both (anew_by m.entry.who m.entry.step) (commands_by m.entry.who m.entry.step) (looks_by m.entry.who m.entry.step)
+    (ends_by m.entry.who m.entry.step) (anew_in log) (commands_in log) (looks_in log) (ends_in log) (anew_one m.entry.who m.entry.step) (anew_few log)
   where
     both : (a c l e al cs ls es : ℕ) → a ≤ c + (l + e) → al ≤ cs + (ls + es) → a + al ≤ (c + cs) + ((l + ls) + (e + es))
     both a c l e al cs ls es p q = let one : a ≤ c + (l + e) = p in let rest : al ≤ cs + (ls + es) = q in omega (arith, one, rest)
 
 -- ---- all together
 
-pub client_few : (f : Formats) (size : ℕ) (steps : StepLaws f size) (w : World) (log : List Moment) → IsHeard f size w log → ends_in log ≤ looks_in log + draws_in log → tests_in log ≤ most_tests * draws_in log → idle_in log ≤ most_of_client log
+pub client_few : (f : Formats) (size : ℕ) (steps : StepLaws f size) (w : World) (log : List Moment) → IsHeard f size w log → ends_in log ≤ looks_in log + draws_in log → tests_in log ≤ most_tests * draws_in log
+    → idle_in log ≤ most_of_client log
 client_few f size steps w log h ends tests =
     sum (idle_in log) (anew_in log) (elections_in log) (empty_in log) (draws_in log) (tests_in log) (bare_in log) (fetches_in log) (commands_in log) (looks_in log) (ends_in log) (bares (entries_by w.entries 0))
     (idle_few f size steps w log h.tracked h.readers (λ t there. nothing w.tickets 0 t h.untouched.tickets there) h.legal h.heard) (anew_few log) ends tests (bared f size steps w log h.legal h.heard none)

@@ -165,7 +165,8 @@ module _ (f : Formats) (size : ℕ) (laws : MasterLaws f size) where
   in_from w (m ∷ log) items counts tracked reads once legal all =
       subst (λ (l : List Item). AllIn l (counts ++ (asked_counts w m.entry.step ++ all_counts f (after f w m) log)) (world_from f (after f w m) log)) (append_assoc items (asked_items w m.entry.step) (all_items f (after f w m) log))
       (subst (λ (l : List (ℕ × ℕ)). AllIn ((items ++ asked_items w m.entry.step) ++ all_items f (after f w m) log) l (world_from f (after f w m) log)) (append_assoc counts (asked_counts w m.entry.step) (all_counts f (after f w m) log))
-      (in_from (after f w m) log (items ++ asked_items w m.entry.step) (counts ++ asked_counts w m.entry.step) (laws.tracks w m tracked legal.0) (laws.reads w m tracked reads legal.0) (masters_on f size laws w m tracked reads legal.0 once) legal.1 (in_now w m tracked reads legal.0 once items counts all)))
+      (in_from (after f w m) log (items ++ asked_items w m.entry.step) (counts ++ asked_counts w m.entry.step) (laws.tracks w m tracked legal.0)
+      (laws.reads w m tracked reads legal.0) (masters_on f size laws w m tracked reads legal.0 once) legal.1 (in_now w m tracked reads legal.0 once items counts all)))
 
   -- from a world in which nothing was done, and no op is open
   pub all_in : (w : World) (log : List Moment) → Tracked w → ReadTracked w → MastersOnce w → IsUntouched w → IsLegal f size w log → AllIn (all_items f w log) (all_counts f w log) (world_from f w log)

@@ -28,3 +28,5 @@ pub mod Writes
 pub mod Checks
 pub mod DoomedSeen
 pub mod Closed
+pub mod ListedShards
+pub mod RestoredShards

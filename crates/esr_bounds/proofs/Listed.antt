@@ -147,7 +147,8 @@ module _ (f : Formats) (size : ℕ) (w : World) where
   lists_page k t there (ListStep from) reply image told (allowed.ListFails j start im g same) = no_page w k t
   lists_page k t there step reply image told a = no_page w k t
 
-module _ (f : Formats) (size : ℕ) (change : (w : World) (m : Moment) (i : Image) → m.image ≡ Some i → Allowed f size w m → BlobsChange f w m.entry.step i.blobs) (w : World) (m : Moment) (a : Allowed f size w m) (told : Tells m.image) (seen : List Bytes) (h : SeenBlobs seen w) where
+module _ (f : Formats) (size : ℕ) (change : (w : World) (m : Moment) (i : Image) → m.image ≡ Some i → Allowed f size w m → BlobsChange f w m.entry.step i.blobs)
+    (w : World) (m : Moment) (a : Allowed f size w m) (told : Tells m.image) (seen : List Bytes) (h : SeenBlobs seen w) where
   abbrev now_seen : List Bytes
   now_seen = seen ++ written f m.entry.step
 
@@ -160,7 +161,8 @@ module _ (f : Formats) (size : ℕ) (change : (w : World) (m : Moment) (i : Imag
   by_change : (now : Blobs) → BlobsChange f w m.entry.step now → (text bytes : Bytes) → fin.get now text ≡ Some bytes → Has now_seen text
   by_change now (NoBlobChange same) text bytes is = old_text text (h text bytes (subst (λ (x : Blobs). fin.get x text ≡ Some bytes) same is))
   by_change now (NewBlob name b how stored absent e) text bytes is = ⊎_elim
-      (λ (here : f.names.text name ≡ text). ⊎_elim (λ (commit : m.entry.step ≡ CommitStep name). new_text (CommitStep name) text commit (inl here)) (λ (test : m.entry.step ≡ ReadStep (CommitTest name)). new_text (ReadStep (CommitTest name)) text test (inl here)) how)
+      (λ (here : f.names.text name ≡ text).
+      ⊎_elim (λ (commit : m.entry.step ≡ CommitStep name). new_text (CommitStep name) text commit (inl here)) (λ (test : m.entry.step ≡ ReadStep (CommitTest name)). new_text (ReadStep (CommitTest name)) text test (inl here)) how)
       (λ (old : fin.get w.blobs text ≡ Some bytes). old_text text (h text bytes old))
       (put_text w.blobs (f.names.text name) b text bytes (subst (λ (x : Blobs). fin.get x text ≡ Some bytes) e is))
   by_change now (NewLatest b latest back e) text bytes is = ⊎_elim
@@ -212,7 +214,8 @@ module _ (f : Formats) (size : ℕ) (known : AllKnown f) (laws : StepLaws f size
         by : Maker w m.entry.who m.entry.step → ListedAt m.entry.who v
         by (UnitStep u out unit) =
             let own = (own_step f size known w m.entry.who t there m.entry.step m.entry.reply m.image unit alive).0 in
-            kept_at m.entry.who t v there (page_of m.entry.step m.entry.reply) (ap (λ (x : Ticket). x.listed) (sym (same_Some own.v v (sym own.at ∙ now))) ∙ own.further.listed) (lists_page f size w m.entry.who t there m.entry.step m.entry.reply m.image told alive)
+            kept_at m.entry.who t v there (page_of m.entry.step m.entry.reply) (ap (λ (x : Ticket). x.listed) (sym (same_Some own.v v (sym own.at ∙ now))) ∙ own.further.listed)
+            (lists_page f size w m.entry.who t there m.entry.step m.entry.reply m.image told alive)
         by (ReaderStep q reading own) = absurd (reads.apart.tickets m.entry.who q t reading.there there)
         by (ClientStep nobody own) = absurd (none_at t (subst (λ (who : ℕ). fin.get w.tickets who ≡ Some t) nobody there))
 
@@ -236,7 +239,8 @@ module _ (f : Formats) (size : ℕ) (known : AllKnown f) (laws : StepLaws f size
   seen_from w [] seen tracked reads legal heard told none h = subst (λ (l : List Bytes). Seen l w) (sym (append-nil seen)) h
   seen_from w (m ∷ log) seen tracked reads legal heard told none h =
       subst (λ (l : List Bytes). Seen l (world_from f (after f w m) log)) (append_assoc seen (written f m.entry.step) (all_written f log))
-      (seen_from (after f w m) log (seen ++ written f m.entry.step) (laws.tracks w m tracked legal.0) (laws.reads w m tracked reads legal.0) legal.1 (λ n had. heard n (inr had)) told.1 (still_none f size laws w m tracked none) (seen_now w m tracked reads legal.0 (heard m (inl refl)) told.0 none seen h))
+      (seen_from (after f w m) log (seen ++ written f m.entry.step) (laws.tracks w m tracked legal.0) (laws.reads w m tracked reads legal.0) legal.1
+      (λ n had. heard n (inr had)) told.1 (still_none f size laws w m tracked none) (seen_now w m tracked reads legal.0 (heard m (inl refl)) told.0 none seen h))
 
   pub listed_few : (w : World) (log : List Moment) → IsHeard f size w log → AreTold log → (k : ℕ) (t : Ticket) → fin.get (world_from f w log).tickets k ≡ Some t → length t.listed ≤ most_blobs w log
   listed_few w log h told k t there =

@@ -217,7 +217,8 @@ module _ (f : Formats) (w : World) where
     own_end k t there (ReadStep read) reply image unit a = absurd unit
     own_end k t there (PruneStep prune) reply image unit (allowed.Pruning j p rep im h) = pruning_end k t there prune reply image h
     own_end k t there (DrawStep n) reply image unit (allowed.Drawing j m first im d same) =
-        besides k t there (with_given w k (λ (x : Ticket). record x { first = w.next_id; drawn = n }) (fin.get w.tickets k)) (record (with_given w k (λ (x : Ticket). record x { first = w.next_id; drawn = n }) (fin.get w.tickets k)) { next_id = w.next_id + n }) refl refl refl
+        besides k t there (with_given w k (λ (x : Ticket). record x { first = w.next_id; drawn = n }) (fin.get w.tickets k))
+        (record (with_given w k (λ (x : Ticket). record x { first = w.next_id; drawn = n }) (fin.get w.tickets k)) { next_id = w.next_id + n }) refl refl refl
         (anew k t there (λ (x : Ticket). record x { first = w.next_id; drawn = n }) refl refl (fin.get w.tickets k) there)
     own_end k t there (DrawStep n) reply image unit (allowed.DrawSpent j m im d spent same) = as_before k t there
     own_end k t there (BeginStep name) reply image unit (allowed.Beginning j n im b same) = as_before k t there
@@ -371,7 +372,8 @@ delete_back t v same h = elim same.work [
 
 -- ---- a ticket that was there, after a step
 
-module _ (f : Formats) (w : World) (step : Step) (new : World) (works : Works w step new) (deletes : DeletesOn w new.deletes) (t v : Ticket) (same : SameUnit t v) (begun : t.op < w.next_op) (h : Holds w.ops w.deletes t) (present : t.term ≡ w.term) where
+module _ (f : Formats) (w : World) (step : Step) (new : World) (works : Works w step new) (deletes : DeletesOn w new.deletes)
+    (t v : Ticket) (same : SameUnit t v) (begun : t.op < w.next_op) (h : Holds w.ops w.deletes t) (present : t.term ≡ w.term) where
   -- its op was open, and can have gone on
   old_op : (op : Op) → fin.get new.ops t.op ≡ Some op → Goes op → (was : Op) × (fin.get w.ops t.op ≡ Some was) × Goes was
   old_op op there goes = elim (works.ops t.op op there) [
@@ -540,7 +542,8 @@ module _ (f : Formats) (size : ℕ) (w : World) (tracked : Tracked w) (v : Ticke
       by : (r : Option Restoring) → fin.get (taken_restore w o i n r).tickets w.next_ticket ≡ Some v → ⊥
       by None now = none_next f w tracked v now
       by (Some r) now = one r (restore_shard r.shards i n) now
-  unit_ready o (GivenFinalize info results) g (Some op) is now = ready_put (final_ticket f w o op results) now (op, results, subst (λ (x : Op). ReadyFinalize w o x results) (same_Some g.op op (sym g.ready.op_there ∙ is)) g.ready, refl, refl, one_each)
+  unit_ready o (GivenFinalize info results) g (Some op) is now =
+      ready_put (final_ticket f w o op results) now (op, results, subst (λ (x : Op). ReadyFinalize w o x results) (same_Some g.op op (sym g.ready.op_there ∙ is)) g.ready, refl, refl, one_each)
     where
       one_each : IsOneEach (finalized_root w.root (info_of op results) results).indices
       one_each =
@@ -551,7 +554,8 @@ module _ (f : Formats) (size : ℕ) (w : World) (tracked : Tracked w) (v : Ticke
   unit_ready o (GivenDelete uuids) g op is now = ready_put (plain_ticket w o (Deleting uuids None)) now (g.0, inl g.1, refl)
   unit_ready o GivenCleanup g op is now = ready_put (cleaning_ticket w o) now (g.0, inr g.1, refl)
 
-  pub take_ready : (who : ℕ) (step : Step) (reply : Reply) (image : Option Image) → step ≡ TakeStep → Allows f size w who step reply image → fin.get (answered f w who step reply image).tickets w.next_ticket ≡ Some v → ReadyOf w v.op v.work
+  pub take_ready : (who : ℕ) (step : Step) (reply : Reply) (image : Option Image) → step ≡ TakeStep → Allows f size w who step reply image → fin.get (answered f w who step reply image).tickets w.next_ticket ≡ Some v
+      → ReadyOf w v.op v.work
   take_ready who TakeStep reply image is (allowed.GivingNothing im none same) now = absurd (none_next f w tracked v now)
   take_ready who TakeStep reply image is (allowed.Giving k o unit im number lowest g same) now = unit_ready o unit g (fin.get w.ops o) refl now
   take_ready who step reply image is a now = absurd cc

@@ -220,7 +220,8 @@ module _ (f : Formats) (size : ℕ) (w : World) (tracked : Tracked w) (reads : R
   reading_over (suc k) read reply image some own is a = absurd own
 
   pruning_over : (k : ℕ) (prune : Prune) (reply : Reply) (image : Option Image) → key (PruneStep prune) ≡ EndKey → PruneAllows f w k prune reply image → Over k (PruneStep prune) reply image
-  pruning_over k EndDelete reply image is (allowed.EndingDelete j im d same) = over_ticket w k d.t d.deleting.out.there reads (with_given w k (λ (x : Ticket). record x { out = false }) (fin.get w.tickets k)) (closed_given w k d.t d.deleting.out.there)
+  pruning_over k EndDelete reply image is (allowed.EndingDelete j im d same) =
+      over_ticket w k d.t d.deleting.out.there reads (with_given w k (λ (x : Ticket). record x { out = false }) (fin.get w.tickets k)) (closed_given w k d.t d.deleting.out.there)
   pruning_over k (DeleteFails why) reply image is (allowed.FailingDelete j y im d same) =
       over_ticket w k d.t d.deleting.out.there reads (delete_failed w k (fin.get w.tickets k)) (closed_delete w k d.t d.deleting.out.there (subst IsMaster (sym d.deleting.work) tt) (open_op d) (λ shard. subst IsShard d.deleting.work shard))
     where

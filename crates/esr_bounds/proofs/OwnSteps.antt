@@ -87,10 +87,12 @@ module _ (f : Formats) (size : ℕ) (known : (place name : Bytes) (number : ℕ)
     over_onward up is = keeps (record t { out = false }) (still t (record t { out = false }) refl refl refl refl refl) (λ few. few) (alike f t (record t { out = false }) refl refl refl refl refl refl) up is
 
     ends_given : Onward f k t [] (with_given w k (λ (x : Ticket). record x { out = false }) (fin.get w.tickets k))
-    ends_given = anew [] (λ (x : Ticket). record x { out = false }) (still t ((λ (x : Ticket). record x { out = false }) t) refl refl refl refl refl) (λ few. few) (alike f t ((λ (x : Ticket). record x { out = false }) t) refl refl refl refl refl refl) (fin.get w.tickets k) there
+    ends_given = anew [] (λ (x : Ticket). record x { out = false }) (still t ((λ (x : Ticket). record x { out = false }) t) refl refl refl refl refl)
+        (λ few. few) (alike f t ((λ (x : Ticket). record x { out = false }) t) refl refl refl refl refl refl) (fin.get w.tickets k) there
 
     tried_onward : Onward f k t [] (tried w k)
-    tried_onward = anew [] (λ (x : Ticket). record x { tried_latest = true }) (still t ((λ (x : Ticket). record x { tried_latest = true }) t) refl refl refl refl refl) (λ few. few) (alike f t ((λ (x : Ticket). record x { tried_latest = true }) t) refl refl refl refl refl refl) (fin.get w.tickets k) there
+    tried_onward = anew [] (λ (x : Ticket). record x { tried_latest = true }) (still t ((λ (x : Ticket). record x { tried_latest = true }) t) refl refl refl refl refl)
+        (λ few. few) (alike f t ((λ (x : Ticket). record x { tried_latest = true }) t) refl refl refl refl refl refl) (fin.get w.tickets k) there
 
     either_onward : (a b : World) (first : Bool) → Onward f k t [] a → Onward f k t [] b → Onward f k t [] (if first then a else b)
     either_onward a b true p q = p
@@ -106,9 +108,11 @@ module _ (f : Formats) (size : ℕ) (known : (place name : Bytes) (number : ℕ)
     commit_onward name (Some b) = anew [] (committing name (Some b)) (still t ((committing name (Some b)) t) refl refl refl refl refl) (λ few. few) (alike f t ((committing name (Some b)) t) refl refl refl refl refl refl) (fin.get w.tickets k) there
 
     note_onward : (name : BlobName) → Onward f k t [] (with_given w k (λ (x : Ticket). noting x name) (fin.get w.tickets k))
-    note_onward name = anew [] (λ (x : Ticket). noting x name) (still t ((λ (x : Ticket). noting x name) t) refl refl refl refl refl) (λ few. few) (alike f t ((λ (x : Ticket). noting x name) t) refl refl refl refl refl refl) (fin.get w.tickets k) there
+    note_onward name =
+        anew [] (λ (x : Ticket). noting x name) (still t ((λ (x : Ticket). noting x name) t) refl refl refl refl refl) (λ few. few) (alike f t ((λ (x : Ticket). noting x name) t) refl refl refl refl refl refl) (fin.get w.tickets k) there
 
-    fetch_onward : (name : BlobName) (b : Option Bytes) → ((v : Ticket) → bare v ≡ bare t → v.work ≡ t.work → v.listed ≡ t.listed → v.settled ≡ t.settled → Further f t [] v) → Onward f k t [] (with_given w k (fetching name b) (fin.get w.tickets k))
+    fetch_onward : (name : BlobName) (b : Option Bytes) → ((v : Ticket) → bare v ≡ bare t → v.work ≡ t.work → v.listed ≡ t.listed → v.settled ≡ t.settled → Further f t [] v)
+        → Onward f k t [] (with_given w k (fetching name b) (fin.get w.tickets k))
     fetch_onward name None further = anew [] (fetching name None) (still t ((fetching name None) t) refl refl refl refl refl) (λ few. few) (further ((fetching name None) t) refl refl refl refl) (fin.get w.tickets k) there
     fetch_onward name (Some b) further = anew [] (fetching name (Some b)) (still t ((fetching name (Some b)) t) refl refl refl refl refl) (λ few. few) (further ((fetching name (Some b)) t) refl refl refl refl) (fin.get w.tickets k) there
 
@@ -122,7 +126,8 @@ module _ (f : Formats) (size : ℕ) (known : (place name : Bytes) (number : ℕ)
     raise_onward : MayRaise f w k → Onward f k t [] (raised w k)
     raise_onward r =
         besides (with_given w k (λ (x : Ticket). record x { raised = Some w.pending }) (fin.get w.tickets k)) (raised w k) refl
-        (anew [] (λ (x : Ticket). record x { raised = Some w.pending }) (record { same = refl; work = inl refl; drew = λ index number is. inl (refl, refl); raised = inr (ap (λ (x : Ticket). x.raised) (sym (same_out r.t r.out)) ∙ r.once) }) (λ few. few)
+        (anew [] (λ (x : Ticket). record x { raised = Some w.pending })
+        (record { same = refl; work = inl refl; drew = λ index number is. inl (refl, refl); raised = inr (ap (λ (x : Ticket). x.raised) (sym (same_out r.t r.out)) ∙ r.once) }) (λ few. few)
         (early_alike f t (record t { raised = Some w.pending }) refl refl refl (unsettled_of r.t r.out r.unsettled)) (fin.get w.tickets k) there)
 
     settle_onward : t.settled ≡ false → (o : Option Swap) (n : Option ℕ) → Onward f k t [] (settled_by f w k t o n)
@@ -184,7 +189,8 @@ module _ (f : Formats) (size : ℕ) (known : (place name : Bytes) (number : ℕ)
         mine : d.t ≡ t
         mine = same_out d.t d.out
 
-    plan_onward : (shards : List PrunedShard) (uuids : List ℕ) → t.work ≡ Deleting uuids None → t.settled ≡ false → AreOfRoot t.root shards → ReadsBack f.root (deleted_root t.root uuids shards w.next_id) → Onward f k t [] (with_given w k (planned f shards w.next_id) (fin.get w.tickets k))
+    plan_onward : (shards : List PrunedShard) (uuids : List ℕ) → t.work ≡ Deleting uuids None → t.settled ≡ false → AreOfRoot t.root shards → ReadsBack f.root (deleted_root t.root uuids shards w.next_id)
+        → Onward f k t [] (with_given w k (planned f shards w.next_id) (fin.get w.tickets k))
     plan_onward shards uuids is unsettled of_root back =
         anew [] (planned f shards w.next_id)
         (record {
@@ -220,7 +226,9 @@ module _ (f : Formats) (size : ℕ) (known : (place name : Bytes) (number : ℕ)
         }
 
         now_planned : Planned (planned f shards w.next_id t)
-        now_planned us s now = let same : Deleting uuids (Some plan) ≡ Deleting us (Some s) = sym plans ∙ now in subst (IsPlan t.root us) (same_swap us plan s same) (subst (λ (u : List ℕ). IsPlan t.root u plan) (same_uuids us plan s same) is_plan)
+        now_planned us s now =
+            let same : Deleting uuids (Some plan) ≡ Deleting us (Some s) = sym plans ∙ now in
+            subst (IsPlan t.root us) (same_swap us plan s same) (subst (λ (u : List ℕ). IsPlan t.root u plan) (same_uuids us plan s same) is_plan)
 
         clash : (index number : ℕ) → t.work ≡ Shard index number → ⊥
         clash index number shard = let no : Deleting uuids None ≡ Shard index number = sym is ∙ shard in cc
@@ -275,11 +283,14 @@ module _ (f : Formats) (size : ℕ) (known : (place name : Bytes) (number : ℕ)
 
   pruning_step : (k : ℕ) (t : Ticket) (there : fin.get w.tickets k ≡ Some t) (prune : Prune) (reply : Reply) (image : Option Image) → PruneAllows f w k prune reply image
       → OwnStep k t there (PruneStep prune) reply (answered f w k (PruneStep prune) reply image)
-  pruning_step k t there prune reply image (allowed.FetchingShard j name im g found) = (fetch_onward k t there name (told_blob f im name) (early_fetch k t there g.t g.deleting.out g.unsettled), inr (tt, of_delete k t there g.t g.uuids None g.deleting.out g.deleting.work))
+  pruning_step k t there prune reply image (allowed.FetchingShard j name im g found) =
+      (fetch_onward k t there name (told_blob f im name) (early_fetch k t there g.t g.deleting.out g.unsettled), inr (tt, of_delete k t there g.t g.uuids None g.deleting.out g.deleting.work))
   pruning_step k t there prune reply image (allowed.ShardMissing j name im g gone) = (as_before k t there, inr (tt, of_delete k t there g.t g.uuids None g.deleting.out g.deleting.work))
   pruning_step k t there prune reply image (allowed.FetchShardFails j name im g same) = (as_before k t there, inr (tt, of_delete k t there g.t g.uuids None g.deleting.out g.deleting.work))
   pruning_step k t there prune reply image (allowed.Planning j shards im p fits back same) = (
-    besides k t there (with_given w k (planned f shards w.next_id) (fin.get w.tickets k)) (record (with_given w k (planned f shards w.next_id) (fin.get w.tickets k)) { next_id = w.next_id + kept_count shards }) refl (plan_onward k t there shards p.uuids (plans_of k t there p.t p.uuids p.deleting.out p.deleting.work) (unsettled_of k t there p.t p.deleting.out p.unsettled) (subst (λ (x : Ticket). AreOfRoot x.root shards) (same_out k t there p.t p.deleting.out) p.of_root) (subst (λ (x : Ticket). ReadsBack f.root (deleted_root x.root p.uuids shards w.next_id)) (same_out k t there p.t p.deleting.out) back)),
+    besides k t there (with_given w k (planned f shards w.next_id) (fin.get w.tickets k)) (record (with_given w k (planned f shards w.next_id) (fin.get w.tickets k)) { next_id = w.next_id + kept_count shards }) refl
+        (plan_onward k t there shards p.uuids (plans_of k t there p.t p.uuids p.deleting.out p.deleting.work) (unsettled_of k t there p.t p.deleting.out p.unsettled)
+        (subst (λ (x : Ticket). AreOfRoot x.root shards) (same_out k t there p.t p.deleting.out) p.of_root) (subst (λ (x : Ticket). ReadsBack f.root (deleted_root x.root p.uuids shards w.next_id)) (same_out k t there p.t p.deleting.out) back)),
     single k t there PlanKey (inr (inr (inr (inr (inr (inl refl)))))),
   )
   pruning_step k t there prune reply image (allowed.PlanSpent j shards im p spent same) = (as_before k t there, single k t there PlanKey (inr (inr (inr (inr (inr (inl refl)))))))
@@ -293,7 +304,8 @@ module _ (f : Formats) (size : ℕ) (known : (place name : Bytes) (number : ℕ)
   pruning_step k t there prune reply image (allowed.EndingDelete j im d same) = (ends_given k t there, single k t there EndKey end_single)
   pruning_step k t there prune reply image (allowed.FailingDelete j why im d same) = (delete_failed_onward k t there, single k t there EndKey end_single)
 
-  pub own_step : (k : ℕ) (t : Ticket) (there : fin.get w.tickets k ≡ Some t) (step : Step) (reply : Reply) (image : Option Image) → IsUnits step → Allows f size w k step reply image → OwnStep k t there step reply (answered f w k step reply image)
+  pub own_step : (k : ℕ) (t : Ticket) (there : fin.get w.tickets k ≡ Some t) (step : Step) (reply : Reply) (image : Option Image) → IsUnits step → Allows f size w k step reply image
+      → OwnStep k t there step reply (answered f w k step reply image)
   own_step k t there (AskStep command) reply image unit a = absurd unit
   own_step k t there TakeStep reply image unit a = absurd unit
   own_step k t there ElectStep reply image unit a = absurd unit
@@ -301,7 +313,8 @@ module _ (f : Formats) (size : ℕ) (known : (place name : Bytes) (number : ℕ)
   own_step k t there (ReadStep read) reply image unit a = absurd unit
   own_step k t there (PruneStep prune) reply image unit (allowed.Pruning j p rep im h) = pruning_step k t there prune reply image h
   own_step k t there (DrawStep n) reply image unit (allowed.Drawing j m first im d same) = (
-    besides k t there (with_given w k (λ (x : Ticket). record x { first = w.next_id; drawn = n }) (fin.get w.tickets k)) (record (with_given w k (λ (x : Ticket). record x { first = w.next_id; drawn = n }) (fin.get w.tickets k)) { next_id = w.next_id + n }) refl (draw_onward k t there n d.may),
+    besides k t there (with_given w k (λ (x : Ticket). record x { first = w.next_id; drawn = n }) (fin.get w.tickets k))
+        (record (with_given w k (λ (x : Ticket). record x { first = w.next_id; drawn = n }) (fin.get w.tickets k)) { next_id = w.next_id + n }) refl (draw_onward k t there n d.may),
     single k t there DrawKey (inl refl),
   )
   own_step k t there (DrawStep n) reply image unit (allowed.DrawSpent j m im d spent same) = (as_before k t there, single k t there DrawKey (inl refl))

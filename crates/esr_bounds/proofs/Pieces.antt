@@ -212,7 +212,8 @@ module _ (f : Formats) (size : ℕ) (laws : StepLaws f size) where
               absurd (some_none step.0.v (sym step.0.at ∙ no_reader))
 
     abbrev FewAt : ℕ → Type 0
-    FewAt k = ((v : Reader) (x : Key) → fin.get new.readers k ≡ Some v → Has (keys (entries_by new.entries k)) x → Has (reader_keys f v) x) × (fin.get new.tickets k ≡ None → fin.get new.readers k ≡ None → entries_by new.entries k ≡ [])
+    FewAt k =
+        ((v : Reader) (x : Key) → fin.get new.readers k ≡ Some v → Has (keys (entries_by new.entries k)) x → Has (reader_keys f v) x) × (fin.get new.tickets k ≡ None → fin.get new.readers k ≡ None → entries_by new.entries k ≡ [])
 
     few_at : (k : ℕ) → 1 ≤ k → FewAt k
     few_at k some = elim (eqb_tells k m.entry.who) [
@@ -246,8 +247,10 @@ module _ (f : Formats) (size : ℕ) (laws : StepLaws f size) (w : World) (log : 
 
   pub restore_few : (k : ℕ) (q : Reader) → 1 ≤ k → fin.get (world_from f w log).readers k ≡ Some q → made_by log k ≤ most_of_restore f q
   restore_few k q some there =
-      sum (made_by log k) (length (entries_by w.entries k)) (length (entries_by (world_from f w log).entries k)) (length (keys (entries_by (world_from f w log).entries k))) (length (map ReadKey (pieces_read f q.index q.number q.read))) (length (pieces_read f q.index q.number q.read))
-      (whole k some) (length_keys (entries_by (world_from f w log).entries k)) (few_once (keys (entries_by (world_from f w log).entries k)) (reader_keys f q) ((heard_kept f size laws w log h).once k some) (λ x had. few_last.listed k q x some there had))
+      sum (made_by log k) (length (entries_by w.entries k)) (length (entries_by (world_from f w log).entries k)) (length (keys (entries_by (world_from f w log).entries k)))
+      (length (map ReadKey (pieces_read f q.index q.number q.read))) (length (pieces_read f q.index q.number q.read))
+      (whole k some) (length_keys (entries_by (world_from f w log).entries k))
+      (few_once (keys (entries_by (world_from f w log).entries k)) (reader_keys f q) ((heard_kept f size laws w log h).once k some) (λ x had. few_last.listed k q x some there had))
       (length-map (pieces_read f q.index q.number q.read) ReadKey)
     where
       sum : (made before entries all mapped pieces : ℕ) → entries ≡ made + before → all ≡ entries → all ≤ suc (suc mapped) → mapped ≡ pieces → made ≤ 2 + pieces

@@ -149,7 +149,10 @@ module _ (f : Formats) (size : ℕ) (known : AllKnown f) (laws : StepLaws f size
         by (UnitStep t out own) = own_at t v some out.there own now
         by (ReaderStep q reading own) = absurd (⊎_elim
             (λ (old : (t : Ticket) × (fin.get w.tickets m.entry.who ≡ Some t) × SameUnit t v). reads.apart.tickets m.entry.who q old.0 reading.there old.1)
-            (λ (new : (m.entry.who ≡ w.next_ticket) × IsNewTicket w v). let below : m.entry.who < w.next_ticket = (reads.tracked.tickets m.entry.who q reading.there).1 in let same : m.entry.who ≡ w.next_ticket = new.0 in omega (arith, below, same))
+            (λ (new : (m.entry.who ≡ w.next_ticket) × IsNewTicket w v).
+            let below : m.entry.who < w.next_ticket = (reads.tracked.tickets m.entry.who q reading.there).1 in
+            let same : m.entry.who ≡ w.next_ticket = new.0 in
+            omega (arith, below, same))
             ((laws.frame w m).come m.entry.who v now))
 
     pruned_at : (k : ℕ) (v : Ticket) → 1 ≤ k → fin.get (after f w m).tickets k ≡ Some v → PrunedAt f (after f w m) k v
@@ -176,8 +179,8 @@ untouched_pruned f w h = record { few = λ k t some there. absurd (nothing w.tic
 abbrev delete_keys : List BlobName → List BlobName → Ticket → List Key
 delete_keys indices doomed t = map IndexKey indices ++ (map PageKey (page_starts t.listed) ++ map RemovalKey doomed)
 
-in_delete : (f : Formats) (indices doomed : List BlobName) (t : Ticket) → ((name : BlobName) → Has (generation_names t.root.indices) name → Has indices name) → ((name : BlobName) → t.settled ≡ true → Has (dooms f t) name → Has doomed name)
-    → (x : Key) → IsOfDelete x → DoesPrune f t x → Has (delete_keys indices doomed t) x
+in_delete : (f : Formats) (indices doomed : List BlobName) (t : Ticket) → ((name : BlobName) → Has (generation_names t.root.indices) name → Has indices name)
+    → ((name : BlobName) → t.settled ≡ true → Has (dooms f t) name → Has doomed name) → (x : Key) → IsOfDelete x → DoesPrune f t x → Has (delete_keys indices doomed t) x
 in_delete f indices doomed t among gone (IndexKey name) own h = Has-left (map IndexKey indices) (map PageKey (page_starts t.listed) ++ map RemovalKey doomed) (IndexKey name) (Has-map IndexKey indices name (among name h))
 in_delete f indices doomed t among gone (PageKey from) own h =
     Has-right (map IndexKey indices) (map PageKey (page_starts t.listed) ++ map RemovalKey doomed) (PageKey from)
@@ -218,13 +221,16 @@ module _ (f : Formats) (size : ℕ) (known : AllKnown f) (laws : StepLaws f size
 
   module _ (k : ℕ) (t : Ticket) (some : 1 ≤ k) (there : fin.get (world_from f w log).tickets k ≡ Some t) where
     -- where its root has these indices at most, its plan no more, and it dooms these names
-    pub few_by : (indices doomed : List BlobName) → ((name : BlobName) → Has (generation_names t.root.indices) name → Has indices name) → ((name : BlobName) → t.settled ≡ true → Has (dooms f t) name → Has doomed name) → (uuids : List ℕ) (plan : Option Swap) → t.work ≡ Deleting uuids plan
+    pub few_by : (indices doomed : List BlobName) → ((name : BlobName) → Has (generation_names t.root.indices) name → Has indices name) → ((name : BlobName) → t.settled ≡ true → Has (dooms f t) name → Has doomed name)
+        → (uuids : List ℕ) (plan : Option Swap) → t.work ≡ Deleting uuids plan
         → ((s : Swap) → t.work ≡ Deleting uuids (Some s) → length s.own ≤ length indices) → made_by log k ≤ 15 + (3 * length indices + (length t.listed + length doomed))
     few_by indices doomed among gone uuids plan is own =
         made_within f size known laws w log h k t some there (15 + (3 * length indices + (length t.listed + length doomed)))
-        (sum (length (entries_by (world_from f w log).entries k)) (length (keys (entries_by (world_from f w log).entries k))) (length (keys_of f size t ++ delete_keys indices doomed t)) (length (keys_of f size t)) (length (delete_keys indices doomed t)) (length (names_of f size t))
+        (sum (length (entries_by (world_from f w log).entries k)) (length (keys (entries_by (world_from f w log).entries k)))
+        (length (keys_of f size t ++ delete_keys indices doomed t)) (length (keys_of f size t)) (length (delete_keys indices doomed t)) (length (names_of f size t))
         (length indices) (length t.listed) (length doomed) (length_keys (entries_by (world_from f w log).entries k))
-        (few_once (keys (entries_by (world_from f w log).entries k)) (keys_of f size t ++ delete_keys indices doomed t) ((heard_kept f size laws w log h).once k some) (λ x had. by x had ((bounded f size known laws w log h k t some there).listed k t x some there had)))
+        (few_once (keys (entries_by (world_from f w log).entries k)) (keys_of f size t ++ delete_keys indices doomed t)
+        ((heard_kept f size laws w log h).once k some) (λ x had. by x had ((bounded f size known laws w log h k t some there).listed k t x some there had)))
         (length-append (keys_of f size t) (delete_keys indices doomed t)) (few_keys f size t) (names_by f size t (length indices) (few_swap f size t uuids plan (length indices) is own)) (length_delete indices doomed t))
       where
         by : (x : Key) → Has (keys (entries_by (world_from f w log).entries k)) x → MayDo f size t x → Has (keys_of f size t ++ delete_keys indices doomed t) x

@@ -126,8 +126,8 @@ module _ (f : Formats) (w : World) (reads : ReadTracked w) where
         absurd (none_there v (subst (λ (m : FinMap nat_cmp Restoring). fin.get m w.next_op ≡ Some v) (goes_answered f w room who (AskStep (DeleteSnapshots names)) reply image tt).restores now))
     by_command who Cleanup reply image a v now s had = absurd (none_there v (subst (λ (m : FinMap nat_cmp Restoring). fin.get m w.next_op ≡ Some v) (goes_answered f w room who (AskStep Cleanup) reply image tt).restores now))
 
-    by_step : (who : ℕ) (step : Step) (reply : Reply) (image : Option Image) → IsAsk step → Allows f size w who step reply image → (v : Restoring) → fin.get (answered f w who step reply image).restores w.next_op ≡ Some v → (s : RestoreShard) → Has v.shards s
-        → Has (restored_at reply) (shard_item w.next_op s)
+    by_step : (who : ℕ) (step : Step) (reply : Reply) (image : Option Image) → IsAsk step → Allows f size w who step reply image → (v : Restoring) → fin.get (answered f w who step reply image).restores w.next_op ≡ Some v
+        → (s : RestoreShard) → Has v.shards s → Has (restored_at reply) (shard_item w.next_op s)
     by_step who (AskStep command) reply image ask a v now s had = by_command who command reply image a v now s had
     by_step who step reply image ask a v now s had = absurd ask
 
@@ -180,7 +180,8 @@ module _ (f : Formats) (size : ℕ) (laws : MasterLaws f size) where
   in_from w [] items tracked reads once legal all = subst (λ (l : List (ℕ × (ℕ × ℕ))). RestoredIn l w) (sym (append-nil items)) all
   in_from w (m ∷ log) items tracked reads once legal all =
       subst (λ (l : List (ℕ × (ℕ × ℕ))). RestoredIn l (world_from f (after f w m) log)) (append_assoc items (restored_at m.entry.reply) (all_restored log))
-      (in_from (after f w m) log (items ++ restored_at m.entry.reply) (laws.tracks w m tracked legal.0) (laws.reads w m tracked reads legal.0) (read_once f size laws.change laws.frame w m reads legal.0 once) legal.1 (in_now w m tracked reads legal.0 once items all))
+      (in_from (after f w m) log (items ++ restored_at m.entry.reply) (laws.tracks w m tracked legal.0) (laws.reads w m tracked reads legal.0)
+      (read_once f size laws.change laws.frame w m reads legal.0 once) legal.1 (in_now w m tracked reads legal.0 once items all))
 
   pub readers_asked : (w : World) (log : List Moment) → Tracked w → ReadTracked w → IsUntouched w → ((o : ℕ) (r : Restoring) → fin.get w.restores o ≡ Some r → ⊥) → IsLegal f size w log
       → (k : ℕ) (q : Reader) → fin.get (world_from f w log).readers k ≡ Some q → Has (all_restored log) (reader_item q)

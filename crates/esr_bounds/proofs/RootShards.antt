@@ -1,5 +1,5 @@
 -- The shards of a root, of which some generation stands, are those of the first root, and those that were asked.
-use Rattle.std.proofs.Common.{◌≡◌, ◌⊎◌, ℕ, zero, suc, pred, ◌+◌, List, [], ◌∷◌, ◌++◌, append-nil, append_assoc, map, Bool, false, Option, Some, None, refl, sym, ap, ◌∙◌, subst, inl, inr, ⊎_elim, arith}
+use Rattle.std.proofs.Common.{◌≡◌, ◌⊎◌, ℕ, zero, suc, pred, ◌+◌, List, [], ◌∷◌, ◌++◌, append-nil, append_assoc, map, Bool, false, Option, Some, None, refl, sym, ap, ◌∙◌, subst, inl, inr, ⊎_elim}
 use Rattle.std.specs.Prelude.{◌==◌, ◌&&◌, set}
 use Rattle.std.proofs.lemmas.Bool.Decides.{eqb_tells}
 use Rattle.std.proofs.lemmas.Bool.{cases_Bool, cond-true, cond-false}
@@ -30,7 +30,7 @@ use Rattle.esr_bounds.specs.Keys.{AreHeard, IsHeard}
 use Rattle.esr_bounds.specs.Others.{generation_names}
 use Rattle.esr_bounds.specs.Laws.{StepLaws, MasterLaws}
 use Rattle.esr_bounds.proofs.Once.{Kept, step_kept, untouched_kept}
-use Rattle.esr_bounds.proofs.Further.{IsPlan, in_generations}
+use Rattle.esr_bounds.proofs.Further.{IsPlan, in_generations, plus_none, none_plus, shift}
 use Rattle.esr_bounds.proofs.Prunes.{Pruned, step_pruned, untouched_pruned}
 use Rattle.esr_bounds.proofs.Masters.{MastersOnce, ReadyOf, ready_now, masters_on, untouched_masters}
 use Rattle.esr_bounds.specs.Units.{asked_counts}
@@ -53,15 +53,6 @@ by_generation places root h index n g is = at (index_at root.indices index) refl
     at (Some x) found has = let e = index_found root.indices index x found in subst (λ (i : ℕ). Has places (i, n)) e.1 (h x n g e.0 has)
 
 -- ---- the root of a finalization
-
-pub plus_none : (n : ℕ) → n ≡ n + 0
-plus_none n = omega arith
-
-pub shift : (a b : ℕ) → suc a + b ≡ a + suc b
-shift a b = omega arith
-
-pub none_plus : (n : ℕ) → 0 + n ≡ n
-none_plus n = omega arith
 
 -- a generation that the old list has, or at which the shard was done
 abbrev Merges : List ShardResult → ℕ → ℕ → List (Option ℕ) → ℕ → Type 0
@@ -127,7 +118,8 @@ module _ (places : List (ℕ × ℕ)) (root : RootData) (info : SnapInfo) (resul
       (λ (new : (q : ℕ) × (done_at results r.id (0 + n) ≡ Some q)). by_done r.id n new.0 (subst (λ (k : ℕ). done_at results r.id k ≡ Some new.0) (none_plus n) new.1))
       (merged_from results r.id 0 [] r.shards n g is)
 
-  new_or : (r : IndexRef) (refs : List IndexRef) (y : RootIndex) (n g : ℕ) → Has (new_indices info results root.indices (r ∷ refs)) y → at_shard y.generations n ≡ Some g → (Has (new_indices info results root.indices refs) y → Has places (y.id, n)) → Has places (y.id, n)
+  new_or : (r : IndexRef) (refs : List IndexRef) (y : RootIndex) (n g : ℕ) → Has (new_indices info results root.indices (r ∷ refs)) y → at_shard y.generations n ≡ Some g
+      → (Has (new_indices info results root.indices refs) y → Has places (y.id, n)) → Has places (y.id, n)
   new_or r refs y n g had is rest = elim (cases_Bool (has_id root.indices r.id)) [
     | inl e ↦ rest (subst (λ (l : List RootIndex). Has l y) (cond-true _ _ _ e) had)
     | inr e ↦ by (subst (λ (l : List RootIndex). Has l y) (cond-false _ _ _ e) had)
@@ -224,7 +216,8 @@ pair_of R (a ∷ xs) (b ∷ ys) y h (inl e) = (a, inl refl, subst (R a) e h.0)
 pair_of R (a ∷ xs) (b ∷ ys) y h (inr m) = let r = pair_of R xs ys y h.1 m in (r.0, inr r.1, r.2)
 
 module _ (f : Formats) (size : ℕ) (laws : StepLaws f size) (masters : MasterLaws f size) (first : List (ℕ × ℕ)) where
-  module _ (w : World) (m : Moment) (tracked : Tracked w) (reads : ReadTracked w) (a : Allowed f size w m) (pruned : Pruned f w) (once : MastersOnce w) (items : List Item) (counts : List (ℕ × ℕ)) (all : AllIn items counts w) (placed : Placed (places_of first items) w) where
+  module _ (w : World) (m : Moment) (tracked : Tracked w) (reads : ReadTracked w) (a : Allowed f size w m) (pruned : Pruned f w) (once : MastersOnce w)
+      (items : List Item) (counts : List (ℕ × ℕ)) (all : AllIn items counts w) (placed : Placed (places_of first items) w) where
     abbrev places : List (ℕ × ℕ)
     places = places_of first items
 
@@ -304,8 +297,8 @@ module _ (f : Formats) (size : ℕ) (laws : StepLaws f size) (masters : MasterLa
         record { root = root_on places now_places on (answered f w m.entry.who m.entry.step m.entry.reply m.image).root root.0; one_each = root.1; tickets = tickets_now; finals = finals_now }
 
   module _ (known : AllKnown f) where
-    placed_from : (w : World) (log : List Moment) (items : List Item) (counts : List (ℕ × ℕ)) → Tracked w → ReadTracked w → Kept w → Pruned f w → MastersOnce w → IsLegal f size w log → AreHeard log → AreTold log → AllIn items counts w → Placed (places_of first items) w
-        → Placed (places_of first (items ++ all_items f w log)) (world_from f w log)
+    placed_from : (w : World) (log : List Moment) (items : List Item) (counts : List (ℕ × ℕ)) → Tracked w → ReadTracked w → Kept w → Pruned f w → MastersOnce w → IsLegal f size w log → AreHeard log → AreTold log
+        → AllIn items counts w → Placed (places_of first items) w → Placed (places_of first (items ++ all_items f w log)) (world_from f w log)
     placed_from w [] items counts tracked reads kept pruned once legal heard told all placed = subst (λ (l : List Item). Placed (places_of first l) w) (sym (append-nil items)) placed
     placed_from w (m ∷ log) items counts tracked reads kept pruned once legal heard told all placed =
         subst (λ (l : List Item). Placed (places_of first l) (world_from f (after f w m) log)) (append_assoc items (asked_items w m.entry.step) (all_items f (after f w m) log))

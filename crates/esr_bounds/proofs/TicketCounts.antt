@@ -1,5 +1,5 @@
 -- All steps together, by how many units are asked: each delete and cleanup has one ticket a term, each shard of a restore has one.
-use Rattle.std.proofs.Common.{◌≡◌, ◌⊎◌, ⊎_elim, ℕ, zero, suc, ◌+◌, ◌*◌, ◌<◌, ◌≤◌, List, [], ◌∷◌, ◌++◌, length, map, true, false, Option, Some, None, refl, sym, ap, ◌∙◌, subst, inl, inr, arith, nat_cmp}
+use Rattle.std.proofs.Common.{◌≡◌, ◌⊎◌, ⊎_elim, ℕ, zero, suc, ◌+◌, ◌*◌, ◌<◌, ◌≤◌, List, [], ◌∷◌, ◌++◌, length, map, true, false, Option, Some, None, refl, sym, ap, ◌∙◌, subst, inl, inr, arith, nat_cmp, le_refl}
 use Rattle.std.proofs.lemmas.Bool.Decides.{eqb_tells, leb_tells}
 use Rattle.std.proofs.Math.Nat.{mul-le-mul_right, zero-mul}
 use Rattle.std.specs.FinMap.{FinMap}
@@ -54,9 +54,6 @@ abbrev pub nones : World → ℕ → ℕ
 nones w zero = 0
 nones w (suc k) = none_at (fin.get w.tickets (suc k)) (fin.get w.readers (suc k)) + nones w k
 
-same_le : (n : ℕ) → n ≤ n
-same_le n = omega arith
-
 -- ---- each stands once
 
 single_delete : (t : Ticket) (work : Work) → AreOnce (delete_of_ticket t work)
@@ -84,7 +81,7 @@ of_reader (Some q) x (inr h) = absurd h
 of_readers : (readers : FinMap nat_cmp Reader) (n : ℕ) (x : ℕ × (ℕ × ℕ)) → Has (readers_upto readers n) x → (k : ℕ) × (k ≤ n) × (q : Reader) × (fin.get readers k ≡ Some q) × (reader_item q ≡ x)
 of_readers readers zero x h = absurd h
 of_readers readers (suc n) x h = elim (Has-either (reader_at (fin.get readers (suc n))) (readers_upto readers n) x h) [
-  | inl here ↦ let r = of_reader (fin.get readers (suc n)) x here in (suc n, same_le (suc n), r.0, r.1, r.2)
+  | inl here ↦ let r = of_reader (fin.get readers (suc n)) x here in (suc n, le_refl (suc n), r.0, r.1, r.2)
   | inr there ↦ let r = of_readers readers n x there in (r.0, up r.0 n r.1, r.2, r.3, r.4)
 ]
   where
@@ -113,14 +110,18 @@ readers_once w reads (suc n) =
 abbrev pub even : {A : Type 0} → ℕ → A → ℕ
 even c x = c
 
-module _ (w : World) (log : List Moment) (deleting restoring : ℕ) (delete_few : (k : ℕ) (t : Ticket) (uuids : List ℕ) (plan : Option Swap) → 1 ≤ k → fin.get w.tickets k ≡ Some t → t.work ≡ Deleting uuids plan → made_by log k ≤ deleting) (restore_few : (k : ℕ) (q : Reader) → 1 ≤ k → fin.get w.readers k ≡ Some q → made_by log k ≤ restoring) (none_few : (k : ℕ) → 1 ≤ k → fin.get w.tickets k ≡ None → fin.get w.readers k ≡ None → made_by log k ≤ 0) where
+module _ (w : World) (log : List Moment) (deleting restoring : ℕ)
+    (delete_few : (k : ℕ) (t : Ticket) (uuids : List ℕ) (plan : Option Swap) → 1 ≤ k → fin.get w.tickets k ≡ Some t → t.work ≡ Deleting uuids plan → made_by log k ≤ deleting)
+    (restore_few : (k : ℕ) (q : Reader) → 1 ≤ k → fin.get w.readers k ≡ Some q → made_by log k ≤ restoring)
+    (none_few : (k : ℕ) → 1 ≤ k → fin.get w.tickets k ≡ None → fin.get w.readers k ≡ None → made_by log k ≤ 0) where
   abbrev DeleteWeight : List (ℕ × ℕ) → ℕ
   DeleteWeight xs = total (even (suc deleting)) xs
 
   abbrev ReadWeight : List (ℕ × (ℕ × ℕ)) → ℕ
   ReadWeight xs = total (even (suc restoring)) xs
 
-  by_work : (k : ℕ) (t : Ticket) (reader : Option Reader) (work : Work) → 1 ≤ k → fin.get w.tickets k ≡ Some t → t.work ≡ work → made_if_delete log k work ≤ DeleteWeight (delete_of_ticket t work) + (ReadWeight (reader_at reader) + 0)
+  by_work : (k : ℕ) (t : Ticket) (reader : Option Reader) (work : Work) → 1 ≤ k → fin.get w.tickets k ≡ Some t → t.work ≡ work
+      → made_if_delete log k work ≤ DeleteWeight (delete_of_ticket t work) + (ReadWeight (reader_at reader) + 0)
   by_work k t reader (Shard index number) some there is = none (ReadWeight (reader_at reader))
     where
       none : (n : ℕ) → 0 ≤ 0 + (n + 0)
@@ -153,7 +154,8 @@ module _ (w : World) (log : List Moment) (deleting restoring : ℕ) (delete_few 
   pub weighed : (n : ℕ) → made_of_others log w n ≤ DeleteWeight (upto delete_of_ticket w.tickets n) + (ReadWeight (readers_upto w.readers n) + nones w n)
   weighed zero = let none : 0 ≤ 0 + (0 + 0) = omega arith in none
   weighed (suc k) =
-      sum (made_besides log (suc k) (fin.get w.tickets (suc k))) (made_of_others log w k) (DeleteWeight (at delete_of_ticket (fin.get w.tickets (suc k)))) (DeleteWeight (upto delete_of_ticket w.tickets k)) (DeleteWeight (upto delete_of_ticket w.tickets (suc k)))
+      sum (made_besides log (suc k) (fin.get w.tickets (suc k))) (made_of_others log w k) (DeleteWeight (at delete_of_ticket (fin.get w.tickets (suc k))))
+      (DeleteWeight (upto delete_of_ticket w.tickets k)) (DeleteWeight (upto delete_of_ticket w.tickets (suc k)))
       (ReadWeight (reader_at (fin.get w.readers (suc k)))) (ReadWeight (readers_upto w.readers k)) (ReadWeight (readers_upto w.readers (suc k))) (none_at (fin.get w.tickets (suc k)) (fin.get w.readers (suc k))) (nones w k)
       (by_number (suc k) (fin.get w.tickets (suc k)) (fin.get w.readers (suc k)) (first k) refl refl) (weighed k)
       (total_append (even (suc deleting)) (at delete_of_ticket (fin.get w.tickets (suc k))) (upto delete_of_ticket w.tickets k)) (total_append (even (suc restoring)) (reader_at (fin.get w.readers (suc k))) (readers_upto w.readers k))
@@ -215,7 +217,8 @@ module _ (f : Formats) (w : World) (from : ℕ) (given : AreGiven from w) where
 given_from : (f : Formats) (size : ℕ) → MasterLaws f size → (from : ℕ) (w : World) (log : List Moment) → AreGiven from w → AreGiven from (world_from f w log)
 given_from f size laws from w [] given = given
 given_from f size laws from w (m ∷ log) given =
-    given_from f size laws from (after f w m) log (λ k low high a b. given_on f w from given m.entry.who m.entry.step (answered f w m.entry.who m.entry.step m.entry.reply m.image) (laws.change w m.entry.who m.entry.step m.entry.reply m.image) k low high a b)
+    given_from f size laws from (after f w m) log
+    (λ k low high a b. given_on f w from given m.entry.who m.entry.step (answered f w m.entry.who m.entry.step m.entry.reply m.image) (laws.change w m.entry.who m.entry.step m.entry.reply m.image) k low high a b)
 
 module _ (from : ℕ) (w : World) (given : AreGiven from w) (first : 1 ≤ from) where
   at_given : (k : ℕ) → from ≤ k → k < w.next_ticket → (ticket : Option Ticket) (reader : Option Reader) → fin.get w.tickets k ≡ ticket → fin.get w.readers k ≡ reader → none_at ticket reader ≡ 0
@@ -242,7 +245,8 @@ module _ (from : ℕ) (w : World) (given : AreGiven from w) (first : 1 ≤ from)
   nones_below : (n : ℕ) → n < w.next_ticket → suc (nones w n) ≤ from
   nones_below zero below = first
   nones_below (suc k) below = ⊎_elim
-      (λ (low : from ≤ suc k). kept (none_at (fin.get w.tickets (suc k)) (fin.get w.readers (suc k))) (nones w k) (at_given (suc k) low below (fin.get w.tickets (suc k)) (fin.get w.readers (suc k)) refl refl) (nones_below k (less k w.next_ticket below)))
+      (λ (low : from ≤ suc k).
+      kept (none_at (fin.get w.tickets (suc k)) (fin.get w.readers (suc k))) (nones w k) (at_given (suc k) low below (fin.get w.tickets (suc k)) (fin.get w.readers (suc k)) refl refl) (nones_below k (less k w.next_ticket below)))
       (λ (high : suc k < from). all (nones w (suc k)) k (nones_all (suc k)) high)
       (at_or from (suc k))
     where
@@ -278,7 +282,8 @@ total_pairs c first terms (suc ops) =
     ∙ ap (λ (n : ℕ). terms * c + n) (total_pairs c first terms ops)
     ∙ times_more ops (terms * c)
 
-module _ (f : Formats) (size : ℕ) (known : AllKnown f) (steps : StepLaws f size) (masters : MasterLaws f size) (gave : (v : World) (m : Moment) (k o : ℕ) (unit : Given) → Allowed f size v m → m.entry.reply ≡ Gave k o unit → TakeGave f v m.entry.who m.entry.step k o unit) (w : World) (log : List Moment) (h : IsHeard f size w log) where
+module _ (f : Formats) (size : ℕ) (known : AllKnown f) (steps : StepLaws f size) (masters : MasterLaws f size)
+    (gave : (v : World) (m : Moment) (k o : ℕ) (unit : Given) → Allowed f size v m → m.entry.reply ≡ Gave k o unit → TakeGave f v m.entry.who m.entry.step k o unit) (w : World) (log : List Moment) (h : IsHeard f size w log) where
   abbrev last : World
   last = world_from f w log
 
@@ -322,7 +327,8 @@ module _ (f : Formats) (size : ℕ) (known : AllKnown f) (steps : StepLaws f siz
       → ((k : ℕ) (q : Reader) → 1 ≤ k → fin.get last.readers k ≡ Some q → made_by log k ≤ restoring) → length log ≤ most_asked f size w log deleting restoring
   whole_asked told none client deleting restoring delete_few restore_few =
       sum (length log) (idle_in log) (most_of_client log) (work_of f size terms log + w.next_op * (terms * suc most_of_drop)) (made_of_others log last last.next_ticket)
-      (total (even (suc deleting)) (upto delete_of_ticket last.tickets last.next_ticket)) ((w.next_op + asks_in log) * (terms * suc deleting)) (total (even (suc restoring)) (readers_upto last.readers last.next_ticket)) (restores_in log * suc restoring)
+      (total (even (suc deleting)) (upto delete_of_ticket last.tickets last.next_ticket)) ((w.next_op + asks_in log) * (terms * suc deleting))
+      (total (even (suc restoring)) (readers_upto last.readers last.next_ticket)) (restores_in log * suc restoring)
       (nones last last.next_ticket) w.next_ticket (whole f size known steps masters gave w log h) client
       (weighed last log deleting restoring delete_few restore_few (none_made f size steps w log h told) last.next_ticket)
       (deletes_few (suc deleting) last.next_ticket) (restores_few none (suc restoring) last.next_ticket) (nones_few w.next_ticket last given_last h.tracked.first_ticket last.next_ticket refl)

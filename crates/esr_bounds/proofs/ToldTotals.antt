@@ -15,9 +15,7 @@ use Rattle.esr_bounds.specs.Laws.{StepLaws, MasterLaws}
 use Rattle.esr_bounds.proofs.Totals.{whole}
 use Rattle.esr_bounds.proofs.Prunes.{delete_few}
 use Rattle.esr_bounds.proofs.Pieces.{restore_few, none_made}
-
-one_more : (a b : ℕ) → a ≤ b → suc a ≤ suc b
-one_more a b h = let less : a ≤ b = h in omega (arith, less)
+use Rattle.esr_bounds.proofs.FewCleanups.{one_more}
 
 no_more : 0 ≤ 0
 no_more = omega arith

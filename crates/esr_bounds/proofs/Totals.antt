@@ -108,7 +108,10 @@ abbrev pub drop_weight : ℕ × ℕ → ℕ
 drop_weight x = suc most_of_drop
 
 -- what the ticket of a number makes weighs no more than what it has of each kind, and what isn't weighed
-module _ (f : Formats) (size : ℕ) (w : World) (log : List Moment) (shard_few : (k : ℕ) (t : Ticket) (index number : ℕ) → 1 ≤ k → fin.get w.tickets k ≡ Some t → t.work ≡ Shard index number → made_by log k ≤ most_of_shard f size t.place t.name number t.source) (final_few : (k : ℕ) (t : Ticket) (info : SnapInfo) (results : List ShardResult) (made : Command) → 1 ≤ k → fin.get w.tickets k ≡ Some t → t.work ≡ Finalize info results made → made_by log k ≤ most_of_final (length info.indices)) (drop_few : (k : ℕ) (t : Ticket) → 1 ≤ k → fin.get w.tickets k ≡ Some t → t.work ≡ Drop → made_by log k ≤ most_of_drop) where
+module _ (f : Formats) (size : ℕ) (w : World) (log : List Moment)
+    (shard_few : (k : ℕ) (t : Ticket) (index number : ℕ) → 1 ≤ k → fin.get w.tickets k ≡ Some t → t.work ≡ Shard index number → made_by log k ≤ most_of_shard f size t.place t.name number t.source)
+    (final_few : (k : ℕ) (t : Ticket) (info : SnapInfo) (results : List ShardResult) (made : Command) → 1 ≤ k → fin.get w.tickets k ≡ Some t → t.work ≡ Finalize info results made
+    → made_by log k ≤ most_of_final (length info.indices)) (drop_few : (k : ℕ) (t : Ticket) → 1 ≤ k → fin.get w.tickets k ≡ Some t → t.work ≡ Drop → made_by log k ≤ most_of_drop) where
   abbrev one_weight : ℕ → Option Ticket → ℕ
   one_weight k o = total (most_of_item f size) (at shard_of_ticket o) + (total final_weight (at final_of_ticket o) + (total drop_weight (at drop_of_ticket o) + made_besides log k o))
 
@@ -142,10 +145,16 @@ module _ (f : Formats) (size : ℕ) (w : World) (log : List Moment) (shard_few :
       → units_upto log n ≤ total (most_of_item f size) (upto shard_of_ticket w.tickets n) + (total final_weight (upto final_of_ticket w.tickets n) + (total drop_weight (upto drop_of_ticket w.tickets n) + made_of_others log w n))
   weighed zero = let none : 0 ≤ 0 = omega arith in none
   weighed (suc k) =
-      subst (λ (n : ℕ). units_upto log (suc k) ≤ n + (total final_weight (upto final_of_ticket w.tickets (suc k)) + (total drop_weight (upto drop_of_ticket w.tickets (suc k)) + made_of_others log w (suc k)))) (sym (total_append (most_of_item f size) (at shard_of_ticket (fin.get w.tickets (suc k))) (upto shard_of_ticket w.tickets k)))
-      (subst (λ (n : ℕ). units_upto log (suc k) ≤ (total (most_of_item f size) (at shard_of_ticket (fin.get w.tickets (suc k))) + total (most_of_item f size) (upto shard_of_ticket w.tickets k)) + (n + (total drop_weight (upto drop_of_ticket w.tickets (suc k)) + made_of_others log w (suc k)))) (sym (total_append final_weight (at final_of_ticket (fin.get w.tickets (suc k))) (upto final_of_ticket w.tickets k)))
-      (subst (λ (n : ℕ). units_upto log (suc k) ≤ (total (most_of_item f size) (at shard_of_ticket (fin.get w.tickets (suc k))) + total (most_of_item f size) (upto shard_of_ticket w.tickets k)) + ((total final_weight (at final_of_ticket (fin.get w.tickets (suc k))) + total final_weight (upto final_of_ticket w.tickets k)) + (n + made_of_others log w (suc k)))) (sym (total_append drop_weight (at drop_of_ticket (fin.get w.tickets (suc k))) (upto drop_of_ticket w.tickets k)))
-      (sum_up (suc (made_by log (suc k))) (units_upto log k) (total (most_of_item f size) (at shard_of_ticket (fin.get w.tickets (suc k)))) (total (most_of_item f size) (upto shard_of_ticket w.tickets k)) (total final_weight (at final_of_ticket (fin.get w.tickets (suc k)))) (total final_weight (upto final_of_ticket w.tickets k)) (total drop_weight (at drop_of_ticket (fin.get w.tickets (suc k)))) (total drop_weight (upto drop_of_ticket w.tickets k)) (made_besides log (suc k) (fin.get w.tickets (suc k))) (made_of_others log w k)
+      subst (λ (n : ℕ). units_upto log (suc k) ≤ n + (total final_weight (upto final_of_ticket w.tickets (suc k)) + (total drop_weight (upto drop_of_ticket w.tickets (suc k)) + made_of_others log w (suc k))))
+      (sym (total_append (most_of_item f size) (at shard_of_ticket (fin.get w.tickets (suc k))) (upto shard_of_ticket w.tickets k)))
+      (subst (λ (n : ℕ). units_upto log (suc k) ≤ (total (most_of_item f size) (at shard_of_ticket (fin.get w.tickets (suc k))) + total (most_of_item f size) (upto shard_of_ticket w.tickets k))
+      + (n + (total drop_weight (upto drop_of_ticket w.tickets (suc k)) + made_of_others log w (suc k)))) (sym (total_append final_weight (at final_of_ticket (fin.get w.tickets (suc k))) (upto final_of_ticket w.tickets k)))
+      (subst (λ (n : ℕ). units_upto log (suc k) ≤ (total (most_of_item f size) (at shard_of_ticket (fin.get w.tickets (suc k))) + total (most_of_item f size) (upto shard_of_ticket w.tickets k))
+      + ((total final_weight (at final_of_ticket (fin.get w.tickets (suc k))) + total final_weight (upto final_of_ticket w.tickets k)) + (n + made_of_others log w (suc k))))
+      (sym (total_append drop_weight (at drop_of_ticket (fin.get w.tickets (suc k))) (upto drop_of_ticket w.tickets k)))
+      (sum_up (suc (made_by log (suc k))) (units_upto log k) (total (most_of_item f size) (at shard_of_ticket (fin.get w.tickets (suc k)))) (total (most_of_item f size) (upto shard_of_ticket w.tickets k))
+      (total final_weight (at final_of_ticket (fin.get w.tickets (suc k)))) (total final_weight (upto final_of_ticket w.tickets k)) (total drop_weight (at drop_of_ticket (fin.get w.tickets (suc k))))
+      (total drop_weight (upto drop_of_ticket w.tickets k)) (made_besides log (suc k) (fin.get w.tickets (suc k))) (made_of_others log w k)
       (one_number (suc k) (fin.get w.tickets (suc k)) (one_le k) refl) (weighed k))))
     where
       one_le : (n : ℕ) → 1 ≤ suc n
@@ -317,7 +326,8 @@ module _ (f : Formats) (size : ℕ) (w : World) where
 
   pending_weight : (a : AskedIndex) (r : IndexRef) (first n : ℕ) → r.name ≡ a.name → total (shard_weight None) (pending_shards a r first n) ≡ work_of_shards f size a first n
   pending_weight a r first zero same = refl
-  pending_weight a r first (suc n) same = ap (λ (name : Bytes). suc (most_of_shard f size a.place name first None) + total (shard_weight None) (pending_shards a r (suc first) n)) same ∙ ap (λ k. suc (most_of_shard f size a.place a.name first None) + k) (pending_weight a r (suc first) n same)
+  pending_weight a r first (suc n) same = ap (λ (name : Bytes). suc (most_of_shard f size a.place name first None) + total (shard_weight None) (pending_shards a r (suc first) n)) same
+      ∙ ap (λ k. suc (most_of_shard f size a.place a.name first None) + k) (pending_weight a r (suc first) n same)
 
   ref_name : (a : AskedIndex) (id : Option ℕ) (next : ℕ) → (ref_by a id next).name ≡ a.name
   ref_name a None next = refl
@@ -332,7 +342,8 @@ module _ (f : Formats) (size : ℕ) (w : World) where
   indices_weight next (a ∷ indices) =
       let r : IndexRef = ref_by a (known_id w a.name) next in
       total_append (shard_weight None) (pending_shards a r 0 r.shards) (all_pending indices (refs_from w (next_by (known_id w a.name) next) indices))
-      ∙ ap (λ n. n + total (shard_weight None) (all_pending indices (refs_from w (next_by (known_id w a.name) next) indices))) (pending_weight a r 0 r.shards (ref_name a (known_id w a.name) next) ∙ ap (work_of_shards f size a 0) (ref_shards a (known_id w a.name) next))
+      ∙ ap (λ n. n + total (shard_weight None) (all_pending indices (refs_from w (next_by (known_id w a.name) next) indices)))
+      (pending_weight a r 0 r.shards (ref_name a (known_id w a.name) next) ∙ ap (work_of_shards f size a 0) (ref_shards a (known_id w a.name) next))
       ∙ ap (λ n. work_of_shards f size a 0 a.shards + n) (indices_weight (next_by (known_id w a.name) next) indices)
 
   clone_weight : (source : ℕ) (refs : List IndexRef) → total (most_of_item f size) (map (item_of w.next_op (Some source)) (map copied_shard (places refs))) ≡ count_of_shards refs * most_of_copy
@@ -399,12 +410,18 @@ pub all_weight : (f : Formats) (size terms : ℕ) (w : World) (log : List Moment
     → total (most_of_item f size) (all_items f w log) + (total (count_weight terms) (all_counts f w log) + asks_in log * (terms * suc most_of_drop)) ≡ work_of f size terms log
 all_weight f size terms w [] = zeros (terms * suc most_of_drop)
 all_weight f size terms w (m ∷ log) =
-    ap (λ n. n + (total (count_weight terms) (asked_counts w m.entry.step ++ all_counts f (after f w m) log) + (asks_by m.entry.step + asks_in log) * (terms * suc most_of_drop))) (total_append (most_of_item f size) (asked_items w m.entry.step) (all_items f (after f w m) log))
-    ∙ ap (λ n. (total (most_of_item f size) (asked_items w m.entry.step) + total (most_of_item f size) (all_items f (after f w m) log)) + (n + (asks_by m.entry.step + asks_in log) * (terms * suc most_of_drop))) (total_append (count_weight terms) (asked_counts w m.entry.step) (all_counts f (after f w m) log))
-    ∙ ap (λ n. (total (most_of_item f size) (asked_items w m.entry.step) + total (most_of_item f size) (all_items f (after f w m) log)) + ((total (count_weight terms) (asked_counts w m.entry.step) + total (count_weight terms) (all_counts f (after f w m) log)) + n)) (add-mul (asks_by m.entry.step) (asks_in log) (terms * suc most_of_drop))
-    ∙ six (total (most_of_item f size) (asked_items w m.entry.step)) (total (most_of_item f size) (all_items f (after f w m) log)) (total (count_weight terms) (asked_counts w m.entry.step)) (total (count_weight terms) (all_counts f (after f w m) log)) (asks_by m.entry.step * (terms * suc most_of_drop)) (asks_in log * (terms * suc most_of_drop))
-    ∙ ap (λ n. (n + (total (count_weight terms) (asked_counts w m.entry.step) + asks_by m.entry.step * (terms * suc most_of_drop))) + (total (most_of_item f size) (all_items f (after f w m) log) + (total (count_weight terms) (all_counts f (after f w m) log) + asks_in log * (terms * suc most_of_drop)))) (asked_weight f size w m.entry.step)
-    ∙ ap (λ n. (shards_work f size m.entry.step + n) + (total (most_of_item f size) (all_items f (after f w m) log) + (total (count_weight terms) (all_counts f (after f w m) log) + asks_in log * (terms * suc most_of_drop)))) (op_weight f size terms w m.entry.step)
+    ap (λ n. n + (total (count_weight terms) (asked_counts w m.entry.step ++ all_counts f (after f w m) log) + (asks_by m.entry.step + asks_in log) * (terms * suc most_of_drop)))
+    (total_append (most_of_item f size) (asked_items w m.entry.step) (all_items f (after f w m) log))
+    ∙ ap (λ n. (total (most_of_item f size) (asked_items w m.entry.step) + total (most_of_item f size) (all_items f (after f w m) log)) + (n + (asks_by m.entry.step + asks_in log) * (terms * suc most_of_drop)))
+    (total_append (count_weight terms) (asked_counts w m.entry.step) (all_counts f (after f w m) log))
+    ∙ ap (λ n. (total (most_of_item f size) (asked_items w m.entry.step) + total (most_of_item f size) (all_items f (after f w m) log))
+    + ((total (count_weight terms) (asked_counts w m.entry.step) + total (count_weight terms) (all_counts f (after f w m) log)) + n)) (add-mul (asks_by m.entry.step) (asks_in log) (terms * suc most_of_drop))
+    ∙ six (total (most_of_item f size) (asked_items w m.entry.step)) (total (most_of_item f size) (all_items f (after f w m) log)) (total (count_weight terms) (asked_counts w m.entry.step))
+    (total (count_weight terms) (all_counts f (after f w m) log)) (asks_by m.entry.step * (terms * suc most_of_drop)) (asks_in log * (terms * suc most_of_drop))
+    ∙ ap (λ n. (n + (total (count_weight terms) (asked_counts w m.entry.step) + asks_by m.entry.step * (terms * suc most_of_drop)))
+    + (total (most_of_item f size) (all_items f (after f w m) log) + (total (count_weight terms) (all_counts f (after f w m) log) + asks_in log * (terms * suc most_of_drop)))) (asked_weight f size w m.entry.step)
+    ∙ ap (λ n. (shards_work f size m.entry.step + n) + (total (most_of_item f size) (all_items f (after f w m) log) + (total (count_weight terms) (all_counts f (after f w m) log) + asks_in log * (terms * suc most_of_drop))))
+    (op_weight f size terms w m.entry.step)
     ∙ ap (λ n. (shards_work f size m.entry.step + terms * op_work m.entry.step) + n) (all_weight f size terms (after f w m) log)
   where
     six : (a b c d i j : ℕ) → (a + b) + ((c + d) + (i + j)) ≡ (a + (c + i)) + (b + (d + j))
@@ -460,7 +477,8 @@ ask_one step h = absurd h
 module _ (f : Formats) (size : ℕ) (laws : MasterLaws f size) where
   pub ops_few : (w : World) (log : List Moment) → (world_from f w log).next_op ≤ w.next_op + asks_in log
   ops_few w [] = let same : w.next_op ≤ w.next_op + 0 = omega arith in same
-  ops_few w (m ∷ log) = both (world_from f (after f w m) log).next_op (after f w m).next_op w.next_op (asks_by m.entry.step) (asks_in log) (ops_few (after f w m) log) (one (next_on f w m.entry.who m.entry.step (answered f w m.entry.who m.entry.step m.entry.reply m.image) (laws.change w m.entry.who m.entry.step m.entry.reply m.image)))
+  ops_few w (m ∷ log) = both (world_from f (after f w m) log).next_op (after f w m).next_op w.next_op (asks_by m.entry.step) (asks_in log) (ops_few (after f w m) log)
+      (one (next_on f w m.entry.who m.entry.step (answered f w m.entry.who m.entry.step m.entry.reply m.image) (laws.change w m.entry.who m.entry.step m.entry.reply m.image)))
     where
       both : (last now was a b : ℕ) → last ≤ now + b → now ≤ was + a → last ≤ was + (a + b)
       both last now was a b p q = let rest : last ≤ now + b = p in let first : now ≤ was + a = q in omega (arith, rest, first)
@@ -471,7 +489,8 @@ module _ (f : Formats) (size : ℕ) (laws : MasterLaws f size) where
 
   terms_few : (w : World) (log : List Moment) → (world_from f w log).term ≤ w.term + elections_in log
   terms_few w [] = let same : w.term ≤ w.term + 0 = omega arith in same
-  terms_few w (m ∷ log) = both (world_from f (after f w m) log).term (after f w m).term w.term (elections_by m.entry.step) (elections_in log) (terms_few (after f w m) log) (one (elects_on f w m.entry.who m.entry.step (answered f w m.entry.who m.entry.step m.entry.reply m.image) (laws.change w m.entry.who m.entry.step m.entry.reply m.image)))
+  terms_few w (m ∷ log) = both (world_from f (after f w m) log).term (after f w m).term w.term (elections_by m.entry.step) (elections_in log) (terms_few (after f w m) log)
+      (one (elects_on f w m.entry.who m.entry.step (answered f w m.entry.who m.entry.step m.entry.reply m.image) (laws.change w m.entry.who m.entry.step m.entry.reply m.image)))
     where
       both : (last now was a b : ℕ) → last ≤ now + b → now ≤ was + a → last ≤ was + (a + b)
       both last now was a b p q = let rest : last ≤ now + b = p in let first : now ≤ was + a = q in omega (arith, rest, first)
@@ -512,7 +531,10 @@ Below last m = m.entry.who ≤ last.next_ticket
 module _ (f : Formats) (size : ℕ) (steps : StepLaws f size) where
   next_rises : (w : World) (log : List Moment) → w.next_ticket ≤ (world_from f w log).next_ticket
   next_rises w [] = let same : w.next_ticket ≤ w.next_ticket = omega arith in same
-  next_rises w (m ∷ log) = let first : w.next_ticket ≤ (after f w m).next_ticket = (steps.frame w m).next_ticket in let rest : (after f w m).next_ticket ≤ (world_from f (after f w m) log).next_ticket = next_rises (after f w m) log in omega (arith, first, rest)
+  next_rises w (m ∷ log) =
+      let first : w.next_ticket ≤ (after f w m).next_ticket = (steps.frame w m).next_ticket in
+      let rest : (after f w m).next_ticket ≤ (world_from f (after f w m) log).next_ticket = next_rises (after f w m) log in
+      omega (arith, first, rest)
 
   -- each unit that is given has a number of its own
   given_shard_next : (w : World) (o : ℕ) (op : Op) (base : Option ℕ) (s : Option ShardWork) (z : ShardWork) → s ≡ Some z → suc w.next_ticket ≤ (taken_shard w o op base s).next_ticket
@@ -549,7 +571,8 @@ module _ (f : Formats) (size : ℕ) (steps : StepLaws f size) where
       by (Gave k o unit) is =
           let take = gave w m k o unit a is in
           subst (λ (r : Reply). 1 + w.next_ticket ≤ (answered f w m.entry.who m.entry.step r m.image).next_ticket) (sym is)
-          (subst (λ (step : Step). 1 + w.next_ticket ≤ (answered f w m.entry.who step (Gave k o unit) m.image).next_ticket) (sym take.step_is) (plus_one w.next_ticket (taken_by f w o unit (fin.get w.ops o)).next_ticket (unit_next w o unit take.gives)))
+          (subst (λ (step : Step). 1 + w.next_ticket ≤ (answered f w m.entry.who step (Gave k o unit) m.image).next_ticket)
+          (sym take.step_is) (plus_one w.next_ticket (taken_by f w o unit (fin.get w.ops o)).next_ticket (unit_next w o unit take.gives)))
       by reply is = rises
 
   gave_few : ((w : World) (m : Moment) (k o : ℕ) (unit : Given) → Allowed f size w m → m.entry.reply ≡ Gave k o unit → TakeGave f w m.entry.who m.entry.step k o unit) → (w : World) (log : List Moment)
@@ -576,7 +599,8 @@ module _ (f : Formats) (size : ℕ) (steps : StepLaws f size) where
           let rises : w.next_ticket ≤ (world_from f w (x ∷ log)).next_ticket = next_rises w (x ∷ log) in
           omega (arith, below, rises)
 
-module _ (f : Formats) (size : ℕ) (known : AllKnown f) (steps : StepLaws f size) (masters : MasterLaws f size) (gave : (v : World) (m : Moment) (k o : ℕ) (unit : Given) → Allowed f size v m → m.entry.reply ≡ Gave k o unit → TakeGave f v m.entry.who m.entry.step k o unit) (w : World) (log : List Moment) (h : IsHeard f size w log) where
+module _ (f : Formats) (size : ℕ) (known : AllKnown f) (steps : StepLaws f size) (masters : MasterLaws f size)
+    (gave : (v : World) (m : Moment) (k o : ℕ) (unit : Given) → Allowed f size v m → m.entry.reply ≡ Gave k o unit → TakeGave f v m.entry.who m.entry.step k o unit) (w : World) (log : List Moment) (h : IsHeard f size w log) where
   abbrev last : World
   last = world_from f w log
 
@@ -636,18 +660,22 @@ module _ (f : Formats) (size : ℕ) (known : AllKnown f) (steps : StepLaws f siz
   drop_in t (Deleting uuids plan) k x is there never = absurd never
 
   pub items_few : total (most_of_item f size) (upto shard_of_ticket last.tickets last.next_ticket) ≤ total (most_of_item f size) (all_items f w log)
-  items_few = light_once (most_of_item f size) (upto shard_of_ticket last.tickets last.next_ticket) (all_items f w log) (items_once last given once last.next_ticket) (λ x had. let r = of_upto shard_of_ticket last.tickets last.next_ticket x had in item_in r.2 r.2.work r.0 x refl r.3 r.4)
+  items_few = light_once (most_of_item f size) (upto shard_of_ticket last.tickets last.next_ticket) (all_items f w log) (items_once last given once last.next_ticket)
+      (λ x had. let r = of_upto shard_of_ticket last.tickets last.next_ticket x had in item_in r.2 r.2.work r.0 x refl r.3 r.4)
 
   pub finals_few : total final_weight (upto final_of_ticket last.tickets last.next_ticket) ≤ total (count_weight terms) (all_counts f w log)
   finals_few =
       subst (λ n. total final_weight (upto final_of_ticket last.tickets last.next_ticket) ≤ n) (total_finals w.term terms (all_counts f w log))
-      (light_once final_weight (upto final_of_ticket last.tickets last.next_ticket) (finals_in w.term terms (all_counts f w log)) (finals_once last given once last.next_ticket) (λ x had. let r = of_upto final_of_ticket last.tickets last.next_ticket x had in final_in r.2 r.2.work r.0 x refl r.3 r.4))
+      (light_once final_weight (upto final_of_ticket last.tickets last.next_ticket) (finals_in w.term terms (all_counts f w log)) (finals_once last given once last.next_ticket)
+      (λ x had. let r = of_upto final_of_ticket last.tickets last.next_ticket x had in final_in r.2 r.2.work r.0 x refl r.3 r.4))
 
   pub drops_few : total drop_weight (upto drop_of_ticket last.tickets last.next_ticket) ≤ (w.next_op + asks_in log) * (terms * suc most_of_drop)
   drops_few =
       both (total drop_weight (upto drop_of_ticket last.tickets last.next_ticket)) (last.next_op * (terms * suc most_of_drop)) ((w.next_op + asks_in log) * (terms * suc most_of_drop))
       (subst (λ n. total drop_weight (upto drop_of_ticket last.tickets last.next_ticket) ≤ n) (total_drops w.term terms last.next_op)
-      (light_once drop_weight (upto drop_of_ticket last.tickets last.next_ticket) (drops_in w.term terms last.next_op) (drops_once last given once last.next_ticket) (λ x had. let r = of_upto drop_of_ticket last.tickets last.next_ticket x had in drop_in r.2 r.2.work r.0 x refl r.3 r.4)))
+      (light_once drop_weight (upto drop_of_ticket last.tickets last.next_ticket) (drops_in w.term terms last.next_op) (drops_once last given once last.next_ticket) (λ x had.
+      let r = of_upto drop_of_ticket last.tickets last.next_ticket x had in
+      drop_in r.2 r.2.work r.0 x refl r.3 r.4)))
       (mul-le-mul_right (terms * suc most_of_drop) (ops_few f size masters w log))
     where
       both : (a b c : ℕ) → a ≤ b → b ≤ c → a ≤ c
@@ -655,10 +683,13 @@ module _ (f : Formats) (size : ℕ) (known : AllKnown f) (steps : StepLaws f siz
 
   pub whole : length log ≤ idle_in log + ((work_of f size terms log + w.next_op * (terms * suc most_of_drop)) + made_of_others log last last.next_ticket)
   whole =
-      add_up (length log) (made_by log 0) (made_upto log last.next_ticket) (total (most_of_item f size) (upto shard_of_ticket last.tickets last.next_ticket)) (total final_weight (upto final_of_ticket last.tickets last.next_ticket)) (total drop_weight (upto drop_of_ticket last.tickets last.next_ticket)) (made_of_others log last last.next_ticket)
-      (total (most_of_item f size) (all_items f w log)) (total (count_weight terms) (all_counts f w log)) (w.next_op * (terms * suc most_of_drop)) (asks_in log * (terms * suc most_of_drop)) (work_of f size terms log) (idle_in log) (gave_in log) last.next_ticket (units_upto log last.next_ticket)
+      add_up (length log) (made_by log 0) (made_upto log last.next_ticket) (total (most_of_item f size) (upto shard_of_ticket last.tickets last.next_ticket))
+      (total final_weight (upto final_of_ticket last.tickets last.next_ticket)) (total drop_weight (upto drop_of_ticket last.tickets last.next_ticket)) (made_of_others log last last.next_ticket)
+      (total (most_of_item f size) (all_items f w log)) (total (count_weight terms) (all_counts f w log)) (w.next_op * (terms * suc most_of_drop))
+      (asks_in log * (terms * suc most_of_drop)) (work_of f size terms log) (idle_in log) (gave_in log) last.next_ticket (units_upto log last.next_ticket)
       (all_made log last.next_ticket (makers_below f size steps w log h.tracked h.readers h.legal h.heard))
-      (weighed f size last log (λ k t index number some there is. shard_few f size known steps w log h k t some there index number is) (λ k t info results made some there is. final_few f size known steps w log h k t some there info results made is) (λ k t some there is. drop_few f size known steps w log h k t some there is) last.next_ticket)
+      (weighed f size last log (λ k t index number some there is. shard_few f size known steps w log h k t some there index number is)
+      (λ k t info results made some there is. final_few f size known steps w log h k t some there info results made is) (λ k t some there is. drop_few f size known steps w log h k t some there is) last.next_ticket)
       items_few finals_few (subst (λ n. total drop_weight (upto drop_of_ticket last.tickets last.next_ticket) ≤ n) (add-mul w.next_op (asks_in log) (terms * suc most_of_drop)) drops_few) (all_weight f size terms w log)
       (nobody_made log) (below_last (gave_in log) w.next_ticket last.next_ticket (gave_few f size steps gave w log h.legal)) (with_takes log last.next_ticket)
     where

@@ -22,12 +22,12 @@ use Rattle.esr_core.specs.Allowed as allowed
 use Rattle.esr_core.specs.Allowed.{Told, InReach, Fetcher, IsOwnTest, MayRemoveTests, RestoreAllows, CloneAllows, DeleteAllows, CleanupAllows, ReadAllows, VerifyAllows, Allows, Allowed}
 use Rattle.esr_core.specs.History.{world_from, IsLegal, AreTold}
 use Rattle.esr_core.specs.Laws.PartNames.{in_parts}
+use Rattle.esr_core.specs.Laws.StepFrames.{change_caller}
 use Rattle.esr_bounds.specs.Keys.{Key, BeginKey, CommitKey, ReadKey, RemovalKey, IsUnheard, AreHeard, IsHeard}
 use Rattle.esr_bounds.specs.Clients.{draws_by, tests_at, tests_by, draws_in, tests_in, most_tests}
 use Rattle.esr_bounds.specs.Laws.{StepLaws}
 use Rattle.esr_bounds.proofs.Few.{few_once}
 use Rattle.esr_bounds.proofs.Once.{counted, looked_at}
-use Rattle.esr_bounds.proofs.Clients.{same_caller}
 use Rattle.esr_bounds.proofs.Prunes.{Tells, told_is}
 
 -- ---- the names of a verification
@@ -60,7 +60,8 @@ unfolding test_keys
 length_keys id =
     length-append (map BeginKey (test_names id)) (map CommitKey (test_names id) ++ (map ReadKey (test_names id) ++ map RemovalKey (test_names id)))
     ∙ ap (λ (n : ℕ). length (map BeginKey (test_names id)) + n)
-    (length-append (map CommitKey (test_names id)) (map ReadKey (test_names id) ++ map RemovalKey (test_names id)) ∙ ap (λ (n : ℕ). length (map CommitKey (test_names id)) + n) (length-append (map ReadKey (test_names id)) (map RemovalKey (test_names id))))
+    (length-append (map CommitKey (test_names id)) (map ReadKey (test_names id) ++ map RemovalKey (test_names id))
+    ∙ ap (λ (n : ℕ). length (map CommitKey (test_names id)) + n) (length-append (map ReadKey (test_names id)) (map RemovalKey (test_names id))))
     ∙ sum (length (map BeginKey (test_names id))) (length (map CommitKey (test_names id))) (length (map ReadKey (test_names id))) (length (map RemovalKey (test_names id)))
     (length-map (test_names id) BeginKey ∙ length_names id) (length-map (test_names id) CommitKey ∙ length_names id) (length-map (test_names id) ReadKey ∙ length_names id) (length-map (test_names id) RemovalKey ∙ length_names id)
   where
@@ -303,7 +304,8 @@ module _ (f : Formats) (size : ℕ) (steps : StepLaws f size) (w : World) (reads
   anew_phase step reply told anew = ap phase (anew_entries w.entries step reply told anew)
 
   -- neither drawn nor tested
-  aside : (step : Step) (reply : Reply) (d : Caller) → is_counted reply ≡ true → begins_anew 0 step ≡ false → test_key step ≡ [] → tests_by 0 step ≡ 0 → d.drawn ≡ w.caller.drawn → d.committed ≡ w.caller.committed → Next step reply d
+  aside : (step : Step) (reply : Reply) (d : Caller) → is_counted reply ≡ true → begins_anew 0 step ≡ false → test_key step ≡ [] → tests_by 0 step ≡ 0 → d.drawn ≡ w.caller.drawn → d.committed ≡ w.caller.committed
+      → Next step reply d
   aside step reply d told old bare none drawn committed =
       let same : phase (entries_by (now step reply) 0) ≡ phase (entries_by w.entries 0) = own_phase step reply told old ∙ ap (λ (l : List Key). l ++ phase (entries_by w.entries 0)) bare in
       record {
@@ -348,8 +350,8 @@ module _ (f : Formats) (size : ℕ) (steps : StepLaws f size) (w : World) (reads
       le : (c b u v : ℕ) → c ≡ 260 → v ≡ u → 0 + (c + u) ≤ 260 * 1 + (b + v)
       le c b u v q r = let two : c ≡ 260 = q in let three : v ≡ u = r in omega (arith, two, three)
 
-  tests : (step : Step) (reply : Reply) (d : Caller) (x : Key) (id : ℕ) → is_counted reply ≡ true → begins_anew 0 step ≡ false → test_key step ≡ x ∷ [] → tests_by 0 step ≡ 1 → (Has (phase (entries_by w.entries 0)) x → ⊥) → w.caller.drawn ≡ Some id
-      → Has (test_keys id) x → d.drawn ≡ w.caller.drawn → ((name : BlobName) → Has d.committed name → Has w.caller.committed name ⊎ Has (test_names id) name) → Next step reply d
+  tests : (step : Step) (reply : Reply) (d : Caller) (x : Key) (id : ℕ) → is_counted reply ≡ true → begins_anew 0 step ≡ false → test_key step ≡ x ∷ [] → tests_by 0 step ≡ 1 → (Has (phase (entries_by w.entries 0)) x → ⊥)
+      → w.caller.drawn ≡ Some id → Has (test_keys id) x → d.drawn ≡ w.caller.drawn → ((name : BlobName) → Has d.committed name → Has w.caller.committed name ⊎ Has (test_names id) name) → Next step reply d
   tests step reply d x id told old key_is one new drew own drawn committed =
       let same : phase (entries_by (now step reply) 0) ≡ x ∷ phase (entries_by w.entries 0) = own_phase step reply told old ∙ ap (λ (l : List Key). l ++ phase (entries_by w.entries 0)) key_is in
       record {
@@ -372,11 +374,12 @@ module _ (f : Formats) (size : ℕ) (steps : StepLaws f size) (w : World) (reads
 
   begins : (name : BlobName) (reply : Reply) → is_counted reply ≡ true → IsNewStep w 0 (ReadStep (BeginTest name)) → IsOwnTest f w name → Next (ReadStep (BeginTest name)) reply w.caller
   begins name reply told new own =
-      tests (ReadStep (BeginTest name)) reply w.caller (BeginKey name) own.id told refl refl refl (fresh w (ReadStep (BeginTest name)) (BeginKey name) new (λ a is. subst (λ (s : Step). Repeats s (ReadStep (BeginTest name))) (sym is) refl)) own.drawn
+      tests (ReadStep (BeginTest name)) reply w.caller (BeginKey name) own.id told refl refl refl
+      (fresh w (ReadStep (BeginTest name)) (BeginKey name) new (λ a is. subst (λ (s : Step). Repeats s (ReadStep (BeginTest name))) (sym is) refl)) own.drawn
       (begin_key own.id name (own_named f w name own)) refl (λ n had. inl had)
 
-  commits : (name : BlobName) (reply : Reply) (d : Caller) → is_counted reply ≡ true → IsNewStep w 0 (ReadStep (CommitTest name)) → IsOwnTest f w name → d.drawn ≡ w.caller.drawn → (d.committed ≡ w.caller.committed) ⊎ (d.committed ≡ name ∷ w.caller.committed)
-      → Next (ReadStep (CommitTest name)) reply d
+  commits : (name : BlobName) (reply : Reply) (d : Caller) → is_counted reply ≡ true → IsNewStep w 0 (ReadStep (CommitTest name)) → IsOwnTest f w name → d.drawn ≡ w.caller.drawn
+      → (d.committed ≡ w.caller.committed) ⊎ (d.committed ≡ name ∷ w.caller.committed) → Next (ReadStep (CommitTest name)) reply d
   commits name reply d told new own drawn which =
       tests (ReadStep (CommitTest name)) reply d (CommitKey name) own.id told refl refl refl (fresh w (ReadStep (CommitTest name)) (CommitKey name) new (λ a is. subst (λ (s : Step). Repeats s (ReadStep (CommitTest name))) (sym is) refl)) own.drawn
       (commit_key own.id name (own_named f w name own)) drawn
@@ -388,7 +391,8 @@ module _ (f : Formats) (size : ℕ) (steps : StepLaws f size) (w : World) (reads
       (subst (λ (l : List BlobName). Has l n) more had))
       which)
 
-  removes : (names : List BlobName) (reply : Reply) (d : Caller) → is_counted reply ≡ true → IsNewStep w 0 (ReadStep (RemoveTests names)) → MayRemoveTests w names → d.drawn ≡ w.caller.drawn → d.committed ≡ w.caller.committed → Next (ReadStep (RemoveTests names)) reply d
+  removes : (names : List BlobName) (reply : Reply) (d : Caller) → is_counted reply ≡ true → IsNewStep w 0 (ReadStep (RemoveTests names)) → MayRemoveTests w names → d.drawn ≡ w.caller.drawn → d.committed ≡ w.caller.committed
+      → Next (ReadStep (RemoveTests names)) reply d
   removes [] reply d told new may drawn committed = aside (ReadStep (RemoveTests [])) reply d told refl refl refl drawn committed
   removes (name ∷ names) reply d told new may drawn committed =
       let own = h.committed name (may.committed name (inl refl)) in
@@ -397,14 +401,16 @@ module _ (f : Formats) (size : ℕ) (steps : StepLaws f size) (w : World) (reads
       (λ n had. inl (subst (λ (l : List BlobName). Has l n) committed had))
 
   -- a test blob that is fetched was committed
-  fetched_test : (name : BlobName) (reply : Reply) (d : Caller) → is_counted reply ≡ true → IsNewStep w 0 (ReadStep (ReadBlob name)) → Has w.caller.committed name → blob_key name ≡ ReadKey name ∷ [] → tests_at name ≡ 1 → d.drawn ≡ w.caller.drawn → d.committed ≡ w.caller.committed
-      → Next (ReadStep (ReadBlob name)) reply d
+  fetched_test : (name : BlobName) (reply : Reply) (d : Caller) → is_counted reply ≡ true → IsNewStep w 0 (ReadStep (ReadBlob name)) → Has w.caller.committed name → blob_key name ≡ ReadKey name ∷ [] → tests_at name ≡ 1
+      → d.drawn ≡ w.caller.drawn → d.committed ≡ w.caller.committed → Next (ReadStep (ReadBlob name)) reply d
   fetched_test name reply d told new had key_is one drawn committed =
       let own = h.committed name had in
-      tests (ReadStep (ReadBlob name)) reply d (ReadKey name) own.0 told refl key_is one (fresh w (ReadStep (ReadBlob name)) (ReadKey name) new (λ a is. subst (λ (s : Step). Repeats s (ReadStep (ReadBlob name))) (sym is) refl)) own.1 (read_key own.0 name own.2) drawn
+      tests (ReadStep (ReadBlob name)) reply d (ReadKey name) own.0 told refl key_is one
+      (fresh w (ReadStep (ReadBlob name)) (ReadKey name) new (λ a is. subst (λ (s : Step). Repeats s (ReadStep (ReadBlob name))) (sym is) refl)) own.1 (read_key own.0 name own.2) drawn
       (λ n also. inl (subst (λ (l : List BlobName). Has l n) committed also))
 
-  fetched : (name : BlobName) (reply : Reply) (d : Caller) → is_counted reply ≡ true → IsNewStep w 0 (ReadStep (ReadBlob name)) → (IsTest name → Has w.caller.committed name) → d.drawn ≡ w.caller.drawn → d.committed ≡ w.caller.committed → Next (ReadStep (ReadBlob name)) reply d
+  fetched : (name : BlobName) (reply : Reply) (d : Caller) → is_counted reply ≡ true → IsNewStep w 0 (ReadStep (ReadBlob name)) → (IsTest name → Has w.caller.committed name) → d.drawn ≡ w.caller.drawn
+      → d.committed ≡ w.caller.committed → Next (ReadStep (ReadBlob name)) reply d
   fetched (TestMaster v) reply d told new had drawn committed = fetched_test (TestMaster v) reply d told new (had tt) refl refl drawn committed
   fetched (TestNode v n) reply d told new had drawn committed = fetched_test (TestNode v n) reply d told new (had tt) refl refl drawn committed
   fetched name reply d told new had drawn committed = aside (ReadStep (ReadBlob name)) reply d told refl refl refl drawn committed
@@ -457,7 +463,8 @@ module _ (f : Formats) (size : ℕ) (steps : StepLaws f size) (w : World) (reads
   by_read k read reply image nobody told (allowed.CheckingAll snapshots blobs im c) new = anew (ReadStep (CheckedAll snapshots blobs)) reply no_caller refl refl refl refl refl
   by_read k read reply image nobody told (allowed.CheckFailing why im o) new = anew (ReadStep (ReadFails why)) reply no_caller refl refl refl refl refl
 
-  read_next : (who : ℕ) (read : Read) (reply : Reply) (image : Option Image) → who ≡ 0 → Tells image → Allows f size w who (ReadStep read) reply image → IsNewStep w 0 (ReadStep read) → Next (ReadStep read) reply (caller_read f w.caller read reply image)
+  read_next : (who : ℕ) (read : Read) (reply : Reply) (image : Option Image) → who ≡ 0 → Tells image → Allows f size w who (ReadStep read) reply image → IsNewStep w 0 (ReadStep read)
+      → Next (ReadStep read) reply (caller_read f w.caller read reply image)
   read_next who read reply image nobody told (allowed.Verifying r rep im a) new = by_verify read reply image a new
   read_next who read reply image nobody told (allowed.Reading k r rep im a same) new = by_read who read reply image nobody told a new
 
@@ -484,7 +491,8 @@ module _ (f : Formats) (size : ℕ) (steps : StepLaws f size) (w : World) (reads
 
 -- ---- over a history
 
-module _ (f : Formats) (size : ℕ) (steps : StepLaws f size) (change : (w : World) (who : ℕ) (step : Step) (reply : Reply) (image : Option Image) → StepChange f w who step (answered f w who step reply image)) (others : (w : World) (m : Moment) → Allowed f size w m → m.entry.who ≢ 0 → (after f w m).caller ≡ w.caller) where
+module _ (f : Formats) (size : ℕ) (steps : StepLaws f size) (change : (w : World) (who : ℕ) (step : Step) (reply : Reply) (image : Option Image) → StepChange f w who step (answered f w who step reply image))
+    (others : (w : World) (m : Moment) → Allowed f size w m → m.entry.who ≢ 0 → (after f w m).caller ≡ w.caller) where
   record After (w : World) (m : Moment) : Type 0 where
     testing : Testing (after f w m).entries (after f w m).caller
     spends : Spends m.entry.who m.entry.step w.entries (after f w m).entries w.caller (after f w m).caller
@@ -504,7 +512,8 @@ module _ (f : Formats) (size : ℕ) (steps : StepLaws f size) (change : (w : Wor
         };
         spends =
             subst (λ (who : ℕ). Spends who m.entry.step w.entries (after f w m).entries w.caller (after f w m).caller) (sym is)
-            (subst (λ (c : Caller). Spends (suc k) m.entry.step w.entries (after f w m).entries w.caller c) (sym same) (same_le (cap w.caller.drawn) (used w.entries) (used (after f w m).entries) (ap (λ (es : List Entry). length (phase es)) entries)));
+            (subst (λ (c : Caller). Spends (suc k) m.entry.step w.entries (after f w m).entries w.caller c) (sym same)
+            (same_le (cap w.caller.drawn) (used w.entries) (used (after f w m).entries) (ap (λ (es : List Entry). length (phase es)) entries)));
       }
 
       own : m.entry.who ≡ 0 → After w m
@@ -513,19 +522,22 @@ module _ (f : Formats) (size : ℕ) (steps : StepLaws f size) (change : (w : Wor
           (subst (λ (who : ℕ). Allows f size w who m.entry.step m.entry.reply m.image) nobody (looked_at f size steps w m a heard).1) (subst (λ (who : ℕ). IsNewStep w who m.entry.step) nobody (a.once (looked_at f size steps w m a heard).0)) in
           let entry_is : m.entry ≡ record { who = 0; step = m.entry.step; reply = m.entry.reply } = ap (λ (who : ℕ). record { who = who; step = m.entry.step; reply = m.entry.reply }) nobody in
           let caller_is : (after f w m).caller ≡ caller_after f w.caller 0 m.entry.step m.entry.reply m.image =
-          ap (λ (c : Caller). caller_after f c m.entry.who m.entry.step m.entry.reply m.image) (same_caller f w m.entry.who m.entry.step (answered f w m.entry.who m.entry.step m.entry.reply m.image) (change w m.entry.who m.entry.step m.entry.reply m.image))
+          ap (λ (c : Caller). caller_after f c m.entry.who m.entry.step m.entry.reply m.image)
+          (change_caller f w m.entry.who m.entry.step (answered f w m.entry.who m.entry.step m.entry.reply m.image) (change w m.entry.who m.entry.step m.entry.reply m.image))
           ∙ ap (λ (who : ℕ). caller_after f w.caller who m.entry.step m.entry.reply m.image) nobody in
           let entries_is : (after f w m).entries ≡ with_entry w.entries (record { who = 0; step = m.entry.step; reply = m.entry.reply }) = ap (with_entry w.entries) entry_is in
           record {
             testing = subst (λ (es : List Entry). Testing es (after f w m).caller) (sym entries_is) (subst (Testing (with_entry w.entries (record { who = 0; step = m.entry.step; reply = m.entry.reply }))) (sym caller_is) next.testing);
             spends =
                 subst (λ (who : ℕ). Spends who m.entry.step w.entries (after f w m).entries w.caller (after f w m).caller) (sym nobody)
-                (subst (λ (es : List Entry). Spends 0 m.entry.step w.entries es w.caller (after f w m).caller) (sym entries_is) (subst (λ (c : Caller). Spends 0 m.entry.step w.entries (with_entry w.entries (record { who = 0; step = m.entry.step; reply = m.entry.reply })) w.caller c) (sym caller_is) next.spends));
+                (subst (λ (es : List Entry). Spends 0 m.entry.step w.entries es w.caller (after f w m).caller) (sym entries_is)
+                (subst (λ (c : Caller). Spends 0 m.entry.step w.entries (with_entry w.entries (record { who = 0; step = m.entry.step; reply = m.entry.reply })) w.caller c) (sym caller_is) next.spends));
           }
 
       by : (who : ℕ) → m.entry.who ≡ who → After w m
       by zero is = own is
-      by (suc k) is = kept k is (others w m a (λ nobody. let clash : suc k ≡ 0 = sym is ∙ nobody in absurd (omega (arith, clash)))) (steps.others w.entries m.entry 0 (λ nobody. let clash : 0 ≡ suc k = nobody ∙ is in absurd (omega (arith, clash))))
+      by (suc k) is =
+          kept k is (others w m a (λ nobody. let clash : suc k ≡ 0 = sym is ∙ nobody in absurd (omega (arith, clash)))) (steps.others w.entries m.entry 0 (λ nobody. let clash : 0 ≡ suc k = nobody ∙ is in absurd (omega (arith, clash))))
 
   record Until (w : World) (log : List Moment) : Type 0 where
     testing : Testing (world_from f w log).entries (world_from f w log).caller

@@ -210,7 +210,8 @@ module _ (w : World) (step : Step) where
   ops_asked : (v : Op) → v.indices ≡ asked_indices w step → v.source ≡ asked_source step → v.shards ≡ asked_shards w step → asked_counts w step ≡ (w.next_op, length (asked_indices w step)) ∷ []
       → OpsOn w step (fin.insert w.ops w.next_op v)
   ops_asked v indices source shards counted p x e = elim (was_in w.ops w.next_op v p x e) [
-    | inl here ↦ inl (record { number = here.0; indices = ap (λ (y : Op). y.indices) (sym here.1) ∙ indices; source = ap (λ (y : Op). y.source) (sym here.1) ∙ source; shards = ap (λ (y : Op). y.shards) (sym here.1) ∙ shards; counted = counted })
+    | inl here ↦
+        inl (record { number = here.0; indices = ap (λ (y : Op). y.indices) (sym here.1) ∙ indices; source = ap (λ (y : Op). y.source) (sym here.1) ∙ source; shards = ap (λ (y : Op). y.shards) (sym here.1) ∙ shards; counted = counted })
     | inr other ↦ inr (was_same w p x other.1)
   ]
 
@@ -323,7 +324,8 @@ module _ (w : World) (step : Step) where
   failed_one k t None is = same
   failed_one k t (Some op) is =
       record {
-        ops = ops_put t.op (record op { shards = map (fails k) op.shards; failed = true }) (record { op = op; there = is; indices = refl; source = refl; shards = failed_on k op.shards; failed = λ h. absurd (let no : true ≡ false = h in cc); aborted = λ h. h });
+        ops = ops_put t.op (record op { shards = map (fails k) op.shards; failed = true })
+            (record { op = op; there = is; indices = refl; source = refl; shards = failed_on k op.shards; failed = λ h. absurd (let no : true ≡ false = h in cc); aborted = λ h. h });
         restores = restores_same;
       }
 

@@ -31,7 +31,7 @@ use Rattle.esr_bounds.proofs.Few.{few_once}
 use Rattle.esr_bounds.proofs.Once.{counted, never_anew, heard_kept}
 use Rattle.esr_bounds.proofs.Names.{own_keys, name_keys}
 use Rattle.esr_bounds.proofs.Bounded.{names_by, bounded, shard_few, final_few, drop_few}
-use Rattle.esr_bounds.proofs.Counting.{total, made_upto, all_made, units_upto, with_takes}
+use Rattle.esr_bounds.proofs.Counting.{total, made_upto, all_made, units_upto, with_takes, none_more}
 use Rattle.esr_bounds.proofs.Items.{most_of_item, all_items, all_counts}
 use Rattle.esr_bounds.proofs.Totals as totals
 use Rattle.esr_bounds.proofs.Totals.{upto, shard_of_ticket, final_of_ticket, drop_of_ticket, final_weight, drop_weight, count_weight, items_few, finals_few, drops_few, all_weight, makers_below}
@@ -42,6 +42,7 @@ use Rattle.esr_bounds.proofs.RootShards.{Placed, places_of, first_places, placed
 use Rattle.esr_bounds.proofs.FewShards.{plan_few, length_of}
 use Rattle.esr_bounds.proofs.TicketCounts as counts
 use Rattle.esr_bounds.proofs.TicketCounts.{delete_of_ticket, readers_upto, nones, even, deletes_few, restores_few, given_last, nones_few}
+use Rattle.esr_bounds.proofs.Found.{has_key}
 
 -- ---- the moments that write
 
@@ -60,14 +61,11 @@ one_at_most (ReadStep read) = let is : 0 ≤ 1 = omega arith in is
 one_at_most LatestStep = let is : 1 ≤ 1 = omega arith in is
 one_at_most step = let is : 0 ≤ 1 = omega arith in is
 
-none_plus : (n : ℕ) → n ≡ 0 + n
-none_plus n = omega arith
-
 one_plus : (n : ℕ) → suc n ≡ 1 + n
 one_plus n = omega arith
 
 length_keep : (n : ℕ) (m : Moment) (log : List Moment) → n ≤ 1 → length (keep n m log) ≡ n + length log
-length_keep zero m log few = none_plus (length log)
+length_keep zero m log few = none_more (length log)
 length_keep (suc zero) m log few = one_plus (length log)
 length_keep (suc (suc n)) m log few = let most : suc (suc n) ≤ 1 = few in absurd (omega (arith, most))
 
@@ -92,7 +90,7 @@ made_keep : (n : ℕ) (m : Moment) (log : List Moment) (k : ℕ) → n ≤ 1 →
 made_keep zero m log k few = by (m.entry.who == k)
   where
     by : (b : Bool) → made_by log k ≡ (if b then 0 + made_by log k else made_by log k)
-    by true = none_plus (made_by log k)
+    by true = none_more (made_by log k)
     by false = refl
 made_keep (suc zero) m log k few = by (m.entry.who == k)
   where
@@ -172,7 +170,7 @@ module _ (f : Formats) (size : ℕ) (laws : StepLaws f size) where
   -- ---- what a ticket has written
 
   written_made : (w : World) (log : List Moment) (k : ℕ) → 1 ≤ k → AreHeard log → written (entries_by (world_from f w log).entries k) ≡ wrote_by log k + written (entries_by w.entries k)
-  written_made w [] k some heard = none_plus (written (entries_by w.entries k))
+  written_made w [] k some heard = none_more (written (entries_by w.entries k))
   written_made w (m ∷ log) k some heard = elim (eqb_tells m.entry.who k) [
     | inl mine ↦
         written_made (after f w m) log k some (λ n h. heard n (inr h)) ∙ ap (λ (n : ℕ). wrote_by log k + n) (ap written (own mine.1)) ∙ shift (wrote_by log k) (writes_by m.entry.step) (written (entries_by w.entries k))
@@ -201,7 +199,7 @@ written_keys [] = []
 written_keys (e ∷ es) = keyed (writes_by e.step) (key e.step) (written_keys es)
 
 length_keyed : (n : ℕ) (x : Key) (xs : List Key) → n ≤ 1 → length (keyed n x xs) ≡ n + length xs
-length_keyed zero x xs few = none_plus (length xs)
+length_keyed zero x xs few = none_more (length xs)
 length_keyed (suc zero) x xs few = one_plus (length xs)
 length_keyed (suc (suc n)) x xs few = let most : suc (suc n) ≤ 1 = few in absurd (omega (arith, most))
 
@@ -223,11 +221,6 @@ of_written (e ∷ es) y h = elim (of_keyed (writes_by e.step) (key e.step) (writ
   | inl here ↦ (e, inl refl, here.0, here.1)
   | inr there ↦ let r = of_written es y there in (r.0, inr r.1, r.2, r.3)
 ]
-
-has_key : (es : List Entry) (e : Entry) → Has es e → Has (keys es) (key e.step)
-has_key [] e h = absurd h
-has_key (x ∷ es) e (inl is) = inl (ap (λ (y : Entry). key y.step) is)
-has_key (x ∷ es) e (inr h) = inr (has_key es e h)
 
 keyed_once : (n : ℕ) (x : Key) (xs : List Key) → (Has xs x → ⊥) → AreOnce xs → AreOnce (keyed n x xs)
 keyed_once zero x xs fresh once = once
@@ -313,7 +306,9 @@ none_long (x ∷ xs) none = absurd (none x (inl refl))
 
 -- ---- all together
 
-module _ (f : Formats) (size : ℕ) (known : AllKnown f) (steps : StepLaws f size) (masters : MasterLaws f size) (gave : (v : World) (m : Moment) (k o : ℕ) (unit : Given) → Allowed f size v m → m.entry.reply ≡ Gave k o unit → TakeGave f v m.entry.who m.entry.step k o unit) (w : World) (log : List Moment) (h : IsHeard f size w log) (told : AreTold log) where
+module _ (f : Formats) (size : ℕ) (known : AllKnown f) (steps : StepLaws f size) (masters : MasterLaws f size)
+    (gave : (v : World) (m : Moment) (k o : ℕ) (unit : Given) → Allowed f size v m → m.entry.reply ≡ Gave k o unit → TakeGave f v m.entry.who m.entry.step k o unit)
+    (w : World) (log : List Moment) (h : IsHeard f size w log) (told : AreTold log) where
   abbrev last : World
   last = world_from f w log
 
@@ -366,9 +361,11 @@ module _ (f : Formats) (size : ℕ) (known : AllKnown f) (steps : StepLaws f siz
   pub writes_few : IsOneEach w.root.indices → ((o : ℕ) (r : Restoring) → fin.get w.restores o ≡ Some r → ⊥) → tests_in log ≤ most_tests * draws_in log → writes_in log ≤ most_writes f size w log
   writes_few one_each none tests =
       add_up (writes_in log) (length (writing log)) (made_by (writing log) 0) (made_upto (writing log) last.next_ticket) (units_upto (writing log) last.next_ticket) last.next_ticket
-      (total (most_of_item f size) (upto shard_of_ticket last.tickets last.next_ticket)) (total final_weight (upto final_of_ticket last.tickets last.next_ticket)) (total drop_weight (upto drop_of_ticket last.tickets last.next_ticket)) (made_of_others (writing log) last last.next_ticket)
+      (total (most_of_item f size) (upto shard_of_ticket last.tickets last.next_ticket)) (total final_weight (upto final_of_ticket last.tickets last.next_ticket))
+      (total drop_weight (upto drop_of_ticket last.tickets last.next_ticket)) (made_of_others (writing log) last last.next_ticket)
       (total (most_of_item f size) (all_items f w log)) (total (count_weight terms) (all_counts f w log)) (w.next_op * (terms * suc most_of_drop)) (asks_in log * (terms * suc most_of_drop)) (work_of f size terms log)
-      (total (even (suc (2 + most_shards w log))) (upto delete_of_ticket last.tickets last.next_ticket)) ((w.next_op + asks_in log) * (terms * suc (2 + most_shards w log))) (total (even 1) (readers_upto last.readers last.next_ticket)) (restores_in log * 1) (nones last last.next_ticket) w.next_ticket (tests_in log) (most_tests * draws_in log)
+      (total (even (suc (2 + most_shards w log))) (upto delete_of_ticket last.tickets last.next_ticket)) ((w.next_op + asks_in log) * (terms * suc (2 + most_shards w log)))
+      (total (even 1) (readers_upto last.readers last.next_ticket)) (restores_in log * 1) (nones last last.next_ticket) w.next_ticket (tests_in log) (most_tests * draws_in log)
       (length_writing log)
       (all_made (writing log) last.next_ticket (λ m had. makers_below f size steps w log h.tracked h.readers h.legal h.heard m (of_writing log m had)))
       (with_takes (writing log) last.next_ticket)
@@ -389,8 +386,8 @@ module _ (f : Formats) (size : ℕ) (known : AllKnown f) (steps : StepLaws f siz
           both : (a b c : ℕ) → a ≡ b → b ≤ c → a ≤ c
           both a b c p q = let one : a ≡ b = p in let two : b ≤ c = q in omega (arith, one, two)
 
-      add_up : (writes long nobody made units next a b c others items counts kept asks work d dels r reads n first tests drawn : ℕ) → long ≡ writes → long ≤ nobody + made → units ≡ made + next → units ≤ a + (b + (c + others)) → a ≤ items → b ≤ counts → c ≤ kept + asks
-          → items + (counts + asks) ≡ work → others ≤ d + (r + n) → d ≤ dels → r ≤ reads → n ≤ first → nobody ≤ tests → tests ≤ drawn
+      add_up : (writes long nobody made units next a b c others items counts kept asks work d dels r reads n first tests drawn : ℕ) → long ≡ writes → long ≤ nobody + made → units ≡ made + next → units ≤ a + (b + (c + others))
+          → a ≤ items → b ≤ counts → c ≤ kept + asks → items + (counts + asks) ≡ work → others ≤ d + (r + n) → d ≤ dels → r ≤ reads → n ≤ first → nobody ≤ tests → tests ≤ drawn
           → writes ≤ drawn + ((work + kept) + (dels + (reads + first)))
       add_up writes long nobody made units next a b c others items counts kept asks work d dels r reads n first tests drawn e1 e2 e3 e4 e5 e6 e7 e8 e9 e10 e11 e12 e13 e14 =
           let i1 : long ≡ writes = e1 in

@@ -16,7 +16,7 @@ ghost use Rattle.esr_core.specs.Tracked.{Tracked};
 ghost use Rattle.esr_core.specs.ReadTracked.{ReadTracked};
 ghost use Rattle.esr_core.specs.History.{world_from, IsLegal, AllKnown, AreTold};
 ghost use Rattle.esr_bounds.specs.Keys.{keys, made_by, IsUntouched, IsHeard};
-ghost use Rattle.esr_bounds.specs.Work.{idle_in, most_steps};
+ghost use Rattle.esr_bounds.specs.Work.{asks_in, restores_in, idle_in, most_steps};
 ghost use Rattle.esr_bounds.specs.Clients.{draws_in, looks_in, ends_in, tests_in, anew_in, fetches_in, most_tests, most_of_client};
 ghost use Rattle.esr_bounds.specs.Units.{IsFinalize, IsDropped, OneOf};
 ghost use Rattle.esr_bounds.specs.Laws.{StepLaws, MasterLaws};
@@ -251,4 +251,16 @@ pub fn no_history_is_longer_than_asked()
     each_restore_finds_few();
     each_check_finds_few();
     no_more_is_written_than_asked();
+}
+
+/// From a kept container that tells, no restore that is accepted has more shards than there are: those of the first root, and those that the history
+/// asks for.
+pub fn no_restore_has_more_shards_than_there_are()
+    ensures { (f : Formats) (part_size : ℕ) (image : Image) (shelf : List Shelved) (w : World) (log : List Moment) → Kept f image shelf → Opened f image w → IsHeard f part_size w log → AllKnown f → AreTold log
+        → restores_in log ≤ asks_in log * most_shards w log }
+{
+    steps_are_lawful();
+    changes_are_lawful();
+    esr_core::answers_tell_their_steps();
+    esr_core::each_history_is_lawful();
 }

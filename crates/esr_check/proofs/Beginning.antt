@@ -129,7 +129,8 @@ asks_stopped X old new steps.Memory h = Begun h
 asks_stopped X old new steps.TurnsSpent h = Begun h
 
 -- it was given up
-pub asks_given : (X : Type 0) {S F H T : Type 0} (e : Evidence S F H T) (s : Start) (old mid new : List Moment) (ending : Ending S F H T) (result : UnitRefusal) → GivenUp hands.Check e s mid new 0 ending result → HasBegun old new → AsksOne {X = X} old new (Err result)
+pub asks_given : (X : Type 0) {S F H T : Type 0} (e : Evidence S F H T) (s : Start) (old mid new : List Moment) (ending : Ending S F H T) (result : UnitRefusal) → GivenUp hands.Check e s mid new 0 ending result → HasBegun old new
+    → AsksOne {X = X} old new (Err result)
 asks_given X e s old mid new ending (units.Failed why) h begun = begun
 asks_given X e s old mid new ending (units.Stopped refusal) h begun = asks_stopped X old new refusal begun
 asks_given X e s old mid new (endings.Failed why b) units.Stale h begun = h

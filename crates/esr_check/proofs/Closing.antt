@@ -157,22 +157,24 @@ module _ (s : Start) (old first mid : List Moment) (snapshots : List RootSnap) (
     for_turns (units.Failed why) spends h = absurd h
     for_turns units.Stale spends h = absurd h
 
-    refused_ends : (refusal : StepRefusal) (result : UnitRefusal) → IsFetchRefusal s mid refusal → ByUnit {S = S} {F = F} {H = H} {T = T} hands.Check e ⊥ s mid 0 (troubles.Step refusal) → GivenUp hands.Check e s mid new 0 (ending_by {S = S} {F = F} {H = H} {T = T} (troubles.Step refusal)) result
+    refused_ends : (refusal : StepRefusal) (result : UnitRefusal) → IsFetchRefusal s mid refusal → ByUnit {S = S} {F = F} {H = H} {T = T} hands.Check e ⊥ s mid 0 (troubles.Step refusal)
+        → GivenUp hands.Check e s mid new 0 (ending_by {S = S} {F = F} {H = H} {T = T} (troubles.Step refusal)) result
         → IsReported {S = S} {F = F} {H = H} {T = T} hands.Check s mid new 0 (ending_by {S = S} {F = F} {H = H} {T = T} (troubles.Step refusal)) result → IsCheckRefused e s old new result
     refused_ends steps.Memory result refused shown h report = for_memory result h
     refused_ends steps.TurnsSpent result refused shown h report = for_turns result refused h
     refused_ends (steps.Refused refusals.DepotFault) result refused shown h report = for_cause whys.Depot shows.Entry result shown tt h report
     refused_ends (steps.Refused x) result refused shown h report = absurd refused
 
-    by_trouble : (trouble : Trouble S F) (result : UnitRefusal) → Shown e.fetch_faults s mid trouble → TellsOne (FirstOf s mid) trouble → ByUnit {S = S} {F = F} {H = H} {T = T} hands.Check e ⊥ s mid 0 trouble → GivenUp hands.Check e s mid new 0 (ending_by {S = S} {F = F} {H = H} {T = T} trouble) result
+    by_trouble : (trouble : Trouble S F) (result : UnitRefusal) → Shown e.fetch_faults s mid trouble → TellsOne (FirstOf s mid) trouble → ByUnit {S = S} {F = F} {H = H} {T = T} hands.Check e ⊥ s mid 0 trouble
+        → GivenUp hands.Check e s mid new 0 (ending_by {S = S} {F = F} {H = H} {T = T} trouble) result
         → IsReported {S = S} {F = F} {H = H} {T = T} hands.Check s mid new 0 (ending_by {S = S} {F = F} {H = H} {T = T} trouble) result → IsCheckRefused e s old new result
     by_trouble (troubles.Step refusal) result was named shown h report = refused_ends refusal result was shown h report
     by_trouble (troubles.Fetch fetch) result was named shown h report = for_cause whys.Depot (shows.Object (objects.Fetch fetch)) result shown tt h report
     by_trouble (troubles.Found why) result was named shown h report = for_cause why shows.Nothing result shown named h report
     by_trouble trouble result was named shown h report = absurd was
 
-    pub trouble_ends : (trouble : Trouble S F) (ending : Ending S F H T) (result : UnitRefusal) → ending ≡ ending_by trouble → Shown e.fetch_faults s mid trouble → TellsOne (FirstOf s mid) trouble → ByUnit {S = S} {F = F} {H = H} {T = T} hands.Check e ⊥ s mid 0 trouble → GivenUp hands.Check e s mid new 0 ending result
-        → IsReported hands.Check s mid new 0 ending result → IsCheckRefused e s old new result
+    pub trouble_ends : (trouble : Trouble S F) (ending : Ending S F H T) (result : UnitRefusal) → ending ≡ ending_by trouble → Shown e.fetch_faults s mid trouble → TellsOne (FirstOf s mid) trouble
+        → ByUnit {S = S} {F = F} {H = H} {T = T} hands.Check e ⊥ s mid 0 trouble → GivenUp hands.Check e s mid new 0 ending result → IsReported hands.Check s mid new 0 ending result → IsCheckRefused e s old new result
     trouble_ends trouble ending result is was named shown h report =
         by_trouble trouble result was named shown (subst (λ (x : Ending S F H T). GivenUp hands.Check e s mid new 0 x result) is h) (subst (λ (x : Ending S F H T). IsReported hands.Check s mid new 0 x result) is report)
 

@@ -80,7 +80,8 @@ told_read false c name bytes is = absurd cc
 
 -- ---- one name more
 
-are_push : (moments : List Moment) (names : List BlobName) (m : Moment) (name : BlobName) → AreFetched moments names → m.entry ≡ record { who = 0; step = ReadStep (ReadBlob name); reply = WasFetched } → AreFetched (moments ++ m ∷ []) (names ++ name ∷ [])
+are_push : (moments : List Moment) (names : List BlobName) (m : Moment) (name : BlobName) → AreFetched moments names → m.entry ≡ record { who = 0; step = ReadStep (ReadBlob name); reply = WasFetched }
+    → AreFetched (moments ++ m ∷ []) (names ++ name ∷ [])
 are_push [] [] m name are is = (is, tt)
 are_push [] (n ∷ names) m name are is = absurd are
 are_push (x ∷ moments) [] m name are is = absurd are
@@ -154,7 +155,8 @@ module _ (s : Start) (old new : List Moment) (snapshots : List RootSnap) (safe :
 
 -- ---- after a fetch
 
-module _ (s : Start) (old new : List Moment) (count : ℕ) (name : BlobName) (bytes : Bytes) (alone : s.alone ≡ true) (h : Stepped s old new 0 (ReadStep (ReadBlob name)) WasFetched) (own : caller_of s new ≡ caller_told (caller_of s old) name (told_bytes s bytes))
+module _ (s : Start) (old new : List Moment) (count : ℕ) (name : BlobName) (bytes : Bytes) (alone : s.alone ≡ true)
+    (h : Stepped s old new 0 (ReadStep (ReadBlob name)) WasFetched) (own : caller_of s new ≡ caller_told (caller_of s old) name (told_bytes s bytes))
     (may : CanCheck s old name) (so : IsSoFar s old count) where
   went : Went s old new (Just name)
   went = step_went s old new name WasFetched alone h

@@ -1,12 +1,13 @@
 -- When a check has read all.
-use Rattle.std.proofs.Common.{◌≡◌, inl, inr, ⊎_elim, ℕ, zero, suc, ◌<◌, true, ℤ, pos, negsuc, List, [], ◌∷◌, Option, Some, None, Result, Ok, Err, IfOk, refl, sym, ap, ◌∙◌, subst}
+use Rattle.std.proofs.Common.{◌≡◌, ⊎_elim, ℕ, zero, suc, ◌<◌, true, ℤ, pos, negsuc, List, [], Option, Some, None, Result, Ok, Err, IfOk, refl, sym, ap, ◌∙◌, subst}
 use Rattle.std.specs.FinMap as fin
 use Rattle.esr_model.specs.Names.{BlobName, Root, Snap, Meta, IndexMeta, ShardSnap, ShardIndex}
 use Rattle.esr_model.specs.Values.{Bytes, Has, IndexRef, RootSnap, RootIndex, RootData, SnapInfo, FileEntry, ShardFiles, Kind, Formats}
-use Rattle.esr_model.specs.Image.{AllPairs, Blobs, At, Reads, FileStands, ListsAs, Generation, global_of}
+use Rattle.esr_model.specs.Image.{Blobs, At, Reads, FileStands, ListsAs, Generation, global_of}
 use Rattle.esr_model.specs.Parts.{part_names}
 use Rattle.esr_model.specs.Agreement.{SnapAgrees, IndexAgrees, RootAgrees}
 use Rattle.esr_model.specs.Reach.{Reached, ReachSnap, ReachMeta, ReachIndexMeta, ReachIndex, ReachShardSnap, ReachPart}
+use Rattle.esr_model.specs.Lists.{pairs_both}
 use Rattle.esr_core.specs.World.{Caller}
 use Rattle.esr_core.specs.Restores.{WasRead}
 use Rattle.esr_core.specs.Allowed.{InReach, IsWhole, CheckedBy}
@@ -37,13 +38,6 @@ reads_one f blobs name kind v w one two =
 
 -- ---- the info of a listed snapshot
 
-pairs_find : {A B : Type 0} (R : A → B → Type 0) (xs : List A) (ys : List B) (x : A) → AllPairs R xs ys → Has xs x → (y : B) × Has ys y × R x y
-pairs_find R [] [] x pairs none = absurd none
-pairs_find R [] (b ∷ ys) x pairs none = absurd none
-pairs_find R (a ∷ xs) [] x pairs has = absurd pairs
-pairs_find {A} R (a ∷ xs) (b ∷ ys) x pairs (inl here) = (b, inl refl, subst (λ (z : A). R z b) here pairs.0)
-pairs_find R (a ∷ xs) (b ∷ ys) x pairs (inr later) = let found = pairs_find R xs ys x pairs.1 later in (found.0, inr found.1, found.2)
-
 suc_same : (m n : ℕ) → suc m ≡ suc n → m ≡ n
 suc_same m n same = cc
 
@@ -60,7 +54,7 @@ module _ (s : Start) (log : List Moment) (count n : ℕ) (root : RootData) (info
   blobs = (world_of s log).blobs
 
   info_at : (snap : RootSnap) → Has root.snapshots snap → (info : SnapInfo) × Has infos info × HasInfo s c root snap info
-  info_at snap listed = pairs_find (HasInfo s c root) root.snapshots infos snap has_infos listed
+  info_at snap listed = pairs_both (HasInfo s c root) root.snapshots infos snap has_infos listed
 
   shard_at : (i k g : ℕ) → Generation root i k g → HasShard s c root infos i k g
   shard_at i k g gen =

@@ -66,8 +66,8 @@ may_end s log (endings.Stopped refusal) alone is_open = tt
 pub never_stale : {S F H T : Type 0} (e : Evidence S F H T) (s : Start) (log : List Moment) (ending : Ending S F H T) → EndingShown hands.Check e ⊥ s log 0 ending → ending ≡ endings.Stale → ⊥
 never_stale {S} {F} {H} {T} e s log ending shown is = subst (λ (x : Ending S F H T). EndingShown hands.Check e ⊥ s log 0 x) is shown
 
-pub ending_shown : {S F H T : Type 0} (e : Evidence S F H T) (s : Start) (log : List Moment) (trouble : Trouble S F) (ending : Ending S F H T) → ending ≡ ending_by trouble → ByUnit {S = S} {F = F} {H = H} {T = T} hands.Check e ⊥ s log 0 trouble
-    → EndingShown hands.Check e ⊥ s log 0 ending
+pub ending_shown : {S F H T : Type 0} (e : Evidence S F H T) (s : Start) (log : List Moment) (trouble : Trouble S F) (ending : Ending S F H T) → ending ≡ ending_by trouble
+    → ByUnit {S = S} {F = F} {H = H} {T = T} hands.Check e ⊥ s log 0 trouble → EndingShown hands.Check e ⊥ s log 0 ending
 ending_shown {S} {F} {H} {T} e s log trouble ending is shown = subst (λ (x : Ending S F H T). EndingShown hands.Check e ⊥ s log 0 x) (sym is) shown
 
 -- ---- how it ends then

@@ -1,5 +1,5 @@
 -- Blobs of one item of a list after another.
-use Rattle.std.proofs.Common.{◌≡◌, inl, inr, ℕ, zero, suc, ◌+◌, ◌<◌, ◌≤◌, false, ◌==◌, List, [], ◌∷◌, ◌++◌, map, length, take, get_or, refl, sym, ap, ◌∙◌, subst, true≢false, arith, eq-eqb}
+use Rattle.std.proofs.Common.{◌≡◌, inl, inr, ℕ, zero, suc, ◌+◌, ◌<◌, ◌≤◌, List, [], ◌∷◌, ◌++◌, map, length, take, get_or, refl, sym, ap, ◌∙◌, subst, arith}
 use Rattle.std.proofs.lemmas.Simd.{map-map}
 use Rattle.std.specs.List.{AllByRecursion}
 use Rattle.esr_model.specs.Lists.{Has-left, Has-right, Has-map}
@@ -15,6 +15,7 @@ use Rattle.esr_desk.specs.Start.{Start}
 use Rattle.esr_reach.specs.Names.{AreOnce}
 use Rattle.esr_reach.specs.Members.{once_distinct}
 use Rattle.esr_desk.specs.Own.{caller_of}
+use Rattle.esr_reach.specs.OnceEach.{tests_apart}
 use Rattle.esr_check.specs.Names.{AreUnfetched}
 use Rattle.esr_check.specs.Went.{Went}
 use Rattle.esr_check.proofs.Going.{went_as, went_both, still_new}
@@ -100,13 +101,10 @@ below_then s old mid new P R n each first second = went_both s old mid new (Belo
 
 -- ---- the ids of an info are distinct
 
-ids_apart : (m n : ℕ) → (m == n) ≡ false → m ≡ n → ⊥
-ids_apart m n apart same = true≢false (sym (eq-eqb m n same) ∙ apart)
-
 pub refs_once : (rs : List CodeRef) → AreRefs [] rs → AreOnce (map (λ (r : IndexRef). r.id) (map ref_of_code rs))
 refs_once rs rule =
     subst AreOnce (sym (map-map (λ (r : IndexRef). r.id) ref_of_code rs))
-    (once_distinct one_id (λ (r : CodeRef). r.id.number) (λ p q apart. ids_apart p.id.number q.id.number apart) rs (ids_distinct rs rule))
+    (once_distinct one_id (λ (r : CodeRef). r.id.number) (λ p q apart. tests_apart p.id.number q.id.number apart) rs (ids_distinct rs rule))
 
 -- ---- lists that are pushed to
 

@@ -13,16 +13,14 @@ use Rattle.esr_core.specs.Allowed as allowed
 use Rattle.esr_core.specs.Allowed.{InReach, SameBlobs, ReadAllows, ReadFound, VerifyAllows, DrawingTest, Allows, Allowed, Blocks, ByFailedSwap, ByDelete}
 use Rattle.esr_core.specs.Past.{with_entry, entries_by}
 use Rattle.esr_core.specs.History.{world_from, IsLegal}
+use Rattle.esr_core.specs.Laws.Asides.{blobs_stay}
 use Rattle.esr_desk.specs.Start.{Start, Legal, formats_of, world_of}
 use Rattle.esr_desk.specs.Outcome.{Waited, Stepped}
 use Rattle.esr_desk.specs.Own.{caller_of, made_of}
+use Rattle.esr_desk.specs.Made.{world_more}
 use Rattle.esr_check.specs.Went.{Grown, IsSame}
 
 -- ---- histories
-
-world_both : (f : Formats) (w : World) (a b : List Moment) → world_from f w (a ++ b) ≡ world_from f (world_from f w a) b
-world_both f w [] b = refl
-world_both f w (m ∷ a) b = world_both f (after f w m) a b
 
 pub legal_last : (f : Formats) (size : ℕ) (w : World) (front : List Moment) (m : Moment) → IsLegal f size w (front ++ m ∷ []) → Allowed f size (world_from f w front) m
 legal_last f size w [] m legal = legal.0
@@ -64,10 +62,6 @@ left_by f size w m a = elim a.answered [
   | inl alive ↦ leaves f size w m.entry.who m.entry.step m.entry.reply m.image alive.1
   | inr dead ↦ step_leaves w m.entry.step m.image dead.same
 ]
-
-blobs_same : (w : World) (image : Option Image) → SameBlobs w image → blobs_in image w.blobs ≡ w.blobs
-blobs_same w None same = refl
-blobs_same w (Some image) same = same
 
 -- ---- what an answer tells
 
@@ -125,7 +119,7 @@ module _ (s : Start) (old new : List Moment) (step : Step) (reply : Reply) (alon
       (legal_last (formats_of s) s.part_size s.world h.front moment_of (subst (Legal s) h.is h.legal))
 
   pub world_is : world_of s new ≡ after (formats_of s) (world_of s old) moment_of
-  world_is = ap (λ (log : List Moment). world_of s log) stepped_is ∙ world_both (formats_of s) s.world old (moment_of ∷ [])
+  world_is = ap (λ (log : List Moment). world_of s log) stepped_is ∙ world_more (formats_of s) s.world old (moment_of ∷ [])
 
 -- ---- a fetch
 
@@ -165,7 +159,8 @@ module _ (s : Start) (old new : List Moment) (name : BlobName) (reply : Reply) (
   pub fetch_world : world_of s new ≡ left_world
   fetch_world =
       world_is s old new (ReadStep (ReadBlob name)) reply alone h
-      ∙ ap (λ (v : World). record (heard (formats_of s) (record v { blobs = blobs_in h.image (world_of s old).blobs }) moment) { entries = with_entry (world_of s old).entries moment.entry }) (answered_fetch (formats_of s) (world_of s old) name reply h.image)
+      ∙ ap (λ (v : World). record (heard (formats_of s) (record v { blobs = blobs_in h.image (world_of s old).blobs }) moment) { entries = with_entry (world_of s old).entries moment.entry })
+      (answered_fetch (formats_of s) (world_of s old) name reply h.image)
 
   pub fetch_blobs : SameBlobs (world_of s old) h.image
   fetch_blobs = left_by (formats_of s) s.part_size (world_of s old) moment (allowed_at s old new (ReadStep (ReadBlob name)) reply alone h)
@@ -175,7 +170,7 @@ module _ (s : Start) (old new : List Moment) (name : BlobName) (reply : Reply) (
 
   pub fetch_same : IsSame (world_of s old) (world_of s new)
   fetch_same = record {
-    blobs = ap (λ (w : World). w.blobs) fetch_world ∙ blobs_same (world_of s old) h.image fetch_blobs;
+    blobs = ap (λ (w : World). w.blobs) fetch_world ∙ blobs_stay (world_of s old) h.image fetch_blobs;
     root = ap (λ (w : World). w.root) fetch_world;
     safe = ap (λ (w : World). w.safe) fetch_world;
     deposed = ap (λ (w : World). w.deposed) fetch_world;
@@ -250,13 +245,15 @@ module _ (s : Start) (old new : List Moment) (snapshots : List RootSnap) (safe :
 module _ (s : Start) (old new : List Moment) (snapshots blobs : ℕ) (alone : s.alone ≡ true) (h : Stepped s old new 0 (ReadStep (CheckedAll snapshots blobs)) HasEnded) where
   end_world :
       world_of s new
-      ≡ record (record (record (world_of s old) { blobs = blobs_in h.image (world_of s old).blobs }) { caller = no_caller }) { entries = record { who = 0; step = ReadStep (CheckedAll snapshots blobs); reply = HasEnded } ∷ (world_of s old).entries }
+      ≡ record (record (record (world_of s old) { blobs = blobs_in h.image (world_of s old).blobs }) { caller = no_caller }) {
+        entries = record { who = 0; step = ReadStep (CheckedAll snapshots blobs); reply = HasEnded } ∷ (world_of s old).entries;
+      }
   end_world = world_is s old new (ReadStep (CheckedAll snapshots blobs)) HasEnded alone h
 
   pub end_blobs : (world_of s new).blobs ≡ (world_of s old).blobs
   end_blobs =
       ap (λ (w : World). w.blobs) end_world
-      ∙ blobs_same (world_of s old) h.image
+      ∙ blobs_stay (world_of s old) h.image
       (left_by (formats_of s) s.part_size (world_of s old) (moment_of s old new (ReadStep (CheckedAll snapshots blobs)) HasEnded alone h) (allowed_at s old new (ReadStep (CheckedAll snapshots blobs)) HasEnded alone h))
 
   pub end_safe : (world_of s new).safe ≡ (world_of s old).safe

@@ -3,7 +3,7 @@ use Rattle.std.proofs.Common.{◌≡◌, inl, inr, ⊎_elim, ℕ, zero, suc, ◌
 use Rattle.std.specs.List.{concat}
 use Rattle.std.specs.Io.KnownBytes.{Consumes}
 use Rattle.std.proofs.lemmas.Bool.{and_parts}
-use Rattle.esr_model.specs.Lists.{Has-append}
+use Rattle.esr_model.specs.Lists.{Has-append, AllPairs-snoc}
 use Rattle.esr_names.specs.declared.blob.BlobName.TheVariants as codes
 use Rattle.esr_names.specs.declared.blob.ShardId.{ShardId}
 use Rattle.esr_model.specs.Names.{BlobName, File, Part}
@@ -24,7 +24,7 @@ use Rattle.esr_formats.specs.Shards.{entry_of}
 use Rattle.esr_desk.specs.Start.{Start}
 use Rattle.esr_desk.specs.Own.{caller_of}
 use Rattle.esr_desk.specs.Restore.Parts.{sized, sized_parts, IsFront}
-use Rattle.esr_restore.specs.Pairs.{pairs_push, pairs_pop, pairs_map}
+use Rattle.esr_restore.specs.Pairs.{pairs_pop, pairs_map}
 use Rattle.esr_restore.specs.PartSizes.{blob_name, size_of, sizes, sizes_next, sizes_all, same_count, part_listed}
 use Rattle.esr_restore.specs.PartReads.{IsExact, is_whole, front_read, told_some, extent_bound, extent_whole, extent_other, concat_push, one_false}
 use Rattle.esr_check.specs.Went.{Grown, Came}
@@ -97,12 +97,12 @@ module _ (s : Start) (a b : Caller) (hasher_old hasher_new : Hasher) (at : Shard
       let before = pairs_map (IsFront (WasRead a.read)) (IsFront (WasRead b.read)) (front_more a b grown) (sizes (blob_name at e) e.print.len e.part_size 0 k) so.fronts (so.read tells) in
       let here : IsFront (WasRead b.read) (blob_name at e k, size_of e.print.len e.part_size k) part.front = subst (λ (n : ℕ). IsFront (WasRead b.read) (blob_name at e k, n) part.front) is (part.read tells) in
       subst (λ (l : List (BlobName × ℕ)). AllPairs (IsFront (WasRead b.read)) l (so.fronts ++ part.front ∷ [])) (sym next)
-      (pairs_push (IsFront (WasRead b.read)) (sizes (blob_name at e) e.print.len e.part_size 0 k) so.fronts (blob_name at e k, size_of e.print.len e.part_size k) part.front before here)
+      (AllPairs-snoc (IsFront (WasRead b.read)) (sizes (blob_name at e) e.print.len e.part_size 0 k) so.fronts (blob_name at e k, size_of e.print.len e.part_size k) part.front before here)
 
   whole_next : exact ≡ true → whole ≡ true → AllPairs IsExact (sizes (blob_name at e) e.print.len e.part_size 0 (k + 1)) (so.fronts ++ part.front ∷ [])
   whole_next before here =
       subst (λ (l : List (BlobName × ℕ)). AllPairs IsExact l (so.fronts ++ part.front ∷ [])) (sym next)
-      (pairs_push IsExact (sizes (blob_name at e) e.print.len e.part_size 0 k) so.fronts (blob_name at e k, size_of e.print.len e.part_size k) part.front (so.whole before) (part.whole here ∙ is))
+      (AllPairs-snoc IsExact (sizes (blob_name at e) e.print.len e.part_size 0 k) so.fronts (blob_name at e k, size_of e.print.len e.part_size k) part.front (so.whole before) (part.whole here ∙ is))
 
   other_next : (exact ≡ true → whole ≡ true → ⊥) → AllPairs IsExact (sizes (blob_name at e) e.print.len e.part_size 0 (k + 1)) (so.fronts ++ part.front ∷ []) → ⊥
   other_next not_both all =
@@ -185,8 +185,8 @@ part_number at e k p = elim (nat_le e.print.len e.part_size) as (λ b. name_of (
 ]
 
 part_found : (c : Caller) (at : ShardId) (e : CodeEntry) (k p q : ℕ) → Has c.found (blob_name at e q) → blob_name at e k ≡ Part at.index.number at.number e.name.number p → Has c.found (Part at.index.number at.number e.name.number q)
-part_found c at e k p q = elim (nat_le e.print.len e.part_size) as (λ b. Has c.found (name_of (if b then codes.Whole at e.name else codes.Part at e.name q)) → name_of (if b then codes.Whole at e.name else codes.Part at e.name k) ≡ Part at.index.number at.number e.name.number p
-    → Has c.found (Part at.index.number at.number e.name.number q)) [
+part_found c at e k p q = elim (nat_le e.print.len e.part_size) as (λ b. Has c.found (name_of (if b then codes.Whole at e.name else codes.Part at e.name q))
+    → name_of (if b then codes.Whole at e.name else codes.Part at e.name k) ≡ Part at.index.number at.number e.name.number p → Has c.found (Part at.index.number at.number e.name.number q)) [
       | true ↦ λ found is. absurd (no_part at.index.number at.number e.name.number p is)
       | false ↦ λ found is. found
     ]

@@ -1,9 +1,8 @@
 -- Steps of a check that were refused, and objects that failed.
-use Rattle.std.proofs.Common.{◌≡◌, ◌⊎◌, inl, inr, ⊎_elim, ℕ, ◌≤◌, Bool, true, false, List, [], ◌∷◌, ◌++◌, append_assoc, Option, Some, None, Result, Ok, Err, IfErr, OnOk, refl, sym, ap, ◌∙◌, subst, arith}
-use Rattle.std.specs.Result.{IsErr, IsErrAnd, is_err}
-use Rattle.std.proofs.lemmas.Bool.{cases_Bool}
+use Rattle.std.proofs.Common.{◌≡◌, ◌⊎◌, inl, inr, ⊎_elim, ℕ, ◌≤◌, true, false, List, [], ◌∷◌, ◌++◌, append_assoc, Option, Some, None, Result, Ok, Err, refl, ap, ◌∙◌, arith}
+use Rattle.std.specs.Result.{is_err}
 use Rattle.esr_model.specs.Lists.{Has-right}
-use Rattle.esr_depot.specs.Calls.{HasCause, has_failed}
+use Rattle.esr_depot.specs.Calls.{has_failed}
 use Rattle.esr_depot.specs.declared.error.CallError.{CallError}
 use Rattle.esr_depot.specs.declared.error.CallError.TheVariants.{Failed}
 use Rattle.esr_model.specs.Names.{BlobName}
@@ -11,6 +10,7 @@ use Rattle.esr_core.specs.Entry.{ReadBlob, CheckedAll, ReadFails, Step, LookStep
 use Rattle.esr_core.specs.World.{World}
 use Rattle.esr_core.specs.Allowed.{Blocks, ByFailedSwap, ByDelete}
 use Rattle.esr_core.specs.Refusing.{MayRefuse, ReadFault}
+use Rattle.esr_core.specs.Laws.Tests.{clash}
 use Rattle.esr_desk.specs.declared.refusal.EntryRefusal.{EntryRefusal}
 use Rattle.esr_desk.specs.declared.refusal.EntryRefusal.TheVariants as refusals
 use Rattle.esr_desk.specs.declared.refusal.StepRefusal.{StepRefusal}
@@ -18,7 +18,6 @@ use Rattle.esr_desk.specs.declared.refusal.StepRefusal.TheVariants as steps
 use Rattle.esr_desk.specs.Refusals.{refusal_of}
 use Rattle.esr_desk.specs.Start.{Start, world_of}
 use Rattle.esr_desk.specs.Outcome.{Stepped, Grounds, fetch_reply}
-use Rattle.esr_desk.specs.Evidence.{Faulty}
 use Rattle.esr_desk.specs.Check.Shown.{AllFetches}
 use Rattle.esr_unit.specs.Fetch.{IsRefusedBy}
 use Rattle.esr_unit.specs.Refusals.{RefusesSo, last_refused}
@@ -26,14 +25,6 @@ use Rattle.esr_check.specs.Went.{IsAlive, IsSoFar}
 use Rattle.esr_check.specs.Trouble.{HadAnswer, IsFetchRefusal}
 use Rattle.esr_check.specs.Fetches.{fetched_all}
 use Rattle.esr_check.proofs.Living.{front_is, moment_of, stepped_is}
-
-contra : (b : Bool) → b ≡ true → b ≡ false → ⊥
-contra b x y = cc (x, y)
-
--- an error that was passed on
-pub passed : {T E : Type 0} (r : Result T E) (P : E → Type 0) (e : E) → IsErrAnd r (λ x. x ≡ e) → P e → IfErr r P
-passed (Ok x) P e is holds = tt
-passed (Err y) P e is holds = subst P (sym is) holds
 
 -- ---- how a step may be refused
 
@@ -67,7 +58,7 @@ block_so w who step refusal (ByFailedSwap place deposed) = inl (place, refl)
 block_so w who step refusal (ByDelete op deposed aborted) = inr tt
 
 live_block : (w : World) (who : ℕ) (step : Step) (refusal : Refusal) → w.deposed ≡ false → Blocks w who step refusal → IsAbort refusal
-live_block w who step refusal alive (ByFailedSwap place deposed) = absurd (contra w.deposed deposed alive)
+live_block w who step refusal alive (ByFailedSwap place deposed) = absurd (clash w.deposed deposed alive)
 live_block w who step refusal alive (ByDelete op deposed aborted) = tt
 
 -- by the law
@@ -137,28 +128,9 @@ absent (Some f) s old new count name is alone so h = absurd cc
 
 -- ---- an object that failed
 
--- it has a count of faults above 0, and is none of a quiet container, where it is sure not to fail
-pub is_faulty : (s : Start) (before now : ℕ) (failed : Bool) → HasCause before now failed → (s.quiet ≡ true → failed ≡ false) → failed ≡ true → Faulty s now
-is_faulty s before now failed cause never is =
-    let rose = cause.rose is in (
-      omega (arith, rose),
-      elim (cases_Bool s.quiet) [
-        | inl quiet ↦ absurd (contra failed is (never quiet))
-        | inr other ↦ other
-      ],
-    )
-
 pub did_fail : {T : Type 0} (result : Result T CallError) (e : CallError) → result ≡ Err e → e ≡ Failed → has_failed result ≡ true
 did_fail {T} result e is failed = ap (λ (r : Result T CallError). has_failed r) is ∙ ap (λ (x : CallError). has_failed {T = T} (Err x)) failed
-
-pub never_err : {T E : Type 0} (result : Result T E) → (IsErr result → ⊥) → is_err result ≡ false
-never_err (Ok x) never = refl
-never_err (Err e) never = absurd (never refl)
 
 pub was_err : {T E : Type 0} (result : Result T E) (e : E) → result ≡ Err e → is_err result ≡ true
 was_err (Ok x) e is = absurd cc
 was_err (Err x) e is = refl
-
-pub on_ok : {T E : Type 0} (result : Result T E) (P : Type 0) → is_err result ≡ false → OnOk result P → P
-on_ok (Ok x) P ok h = h
-on_ok (Err e) P ok h = absurd cc

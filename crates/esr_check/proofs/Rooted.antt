@@ -1,7 +1,6 @@
 -- What the rule of roots says of one that was read.
-use Rattle.std.proofs.Common.{◌≡◌, ◌⊎◌, inl, inr, ℕ, ◌&&◌, ◌||◌, Bool, true, false, List, [], ◌∷◌, map, Some, refl, sym, ap, ◌∙◌, subst, eqb-true}
-use Rattle.std.specs.List.{list_all, list_any}
-use Rattle.esr_model.specs.Lists.{Has-mapped, Has-map}
+use Rattle.std.proofs.Common.{◌≡◌, ℕ, true, List, map, Some, sym, ◌∙◌, subst, eqb-true}
+use Rattle.esr_model.specs.Lists.{Has-mapped, Has-map, pass_has, all_has}
 use Rattle.esr_names.specs.declared.ids.Id.{Id}
 use Rattle.esr_root.specs.Ids.{same_id}
 use Rattle.esr_root.specs.Snaps.{lists}
@@ -13,38 +12,16 @@ use Rattle.esr_formats.specs.Ids.{number_of}
 use Rattle.esr_formats.specs.Roots.{root_of, root_snap_of, root_index_of}
 use Rattle.esr_model.specs.Values.{Has, RootSnap, RootIndex}
 use Rattle.esr_model.specs.Image.{Generation, at_shard}
-use Rattle.esr_reach.specs.Members.{all_has}
+use Rattle.esr_core.specs.Laws.CleanupReach.{any_was}
 use Rattle.esr_reach.specs.Reached.{generation_at}
 use Rattle.esr_reach.specs.OnceEach.{indices_once, one_each}
 use Rattle.esr_check.proofs.Ending.{AreListed}
-
--- ---- tests of lists
-
-both : (a b : Bool) → (a && b) ≡ true → (a ≡ true) × (b ≡ true)
-both true b h = (refl, h)
-both false b h = absurd cc
-
-either : (a b : Bool) → (a || b) ≡ true → (a ≡ true) ⊎ (b ≡ true)
-either true b h = inl refl
-either false b h = inr h
-
-pass_has : {A : Type 0} (p : A → Bool) (xs : List A) (x : A) → list_all p xs ≡ true → Has xs x → p x ≡ true
-pass_has p [] x all none = absurd none
-pass_has p (y ∷ ys) x all (inl here) = ap p (sym here) ∙ (both (p y) (list_all p ys) all).0
-pass_has p (y ∷ ys) x all (inr later) = pass_has p ys x (both (p y) (list_all p ys) all).1 later
-
-any_has : {A : Type 0} (p : A → Bool) (xs : List A) → list_any p xs ≡ true → (x : A) × Has xs x × (p x ≡ true)
-any_has p [] none = absurd cc
-any_has p (y ∷ ys) some = elim (either (p y) (list_any p ys) some) [
-  | inl here ↦ (y, inl refl, here)
-  | inr later ↦ let found = any_has p ys later in (found.0, inr found.1, found.2)
-]
 
 -- ---- the snapshots of its indices are listed
 
 listed_id : (snaps : List CodeSnap) (u : Id) → lists snaps u ≡ true → (snap : RootSnap) × Has (map root_snap_of snaps) snap × (snap.uuid ≡ u.number)
 listed_id snaps u is =
-    let found = any_has (λ (s : CodeSnap). same_id s.uuid u) snaps is in
+    let found = any_was (λ (s : CodeSnap). same_id s.uuid u) snaps is in
     (root_snap_of found.0, Has-map root_snap_of snaps found.0 found.1, eqb-true found.0.uuid.number u.number found.2)
 
 pub are_listed : (root : Root) → IsRoot root → AreListed (root_of root)

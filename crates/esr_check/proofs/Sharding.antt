@@ -54,7 +54,8 @@ info_read s c root infos info h has =
 
 -- ---- what disagrees
 
-module _ (s : Start) (old new : List Moment) (P : BlobName → Type 0) (root : RootData) (infos : List SnapInfo) (index shard generation : ℕ) (held : ShardFiles) (uuid : ℕ) (went : Went s old new P) (has_infos : HasInfos s (caller_of s old) root infos) where
+module _ (s : Start) (old new : List Moment) (P : BlobName → Type 0) (root : RootData) (infos : List SnapInfo) (index shard generation : ℕ)
+    (held : ShardFiles) (uuid : ℕ) (went : Went s old new P) (has_infos : HasInfos s (caller_of s old) root infos) where
   read_then : HasInfos s (caller_of s new) root infos
   read_then = infos_more s (caller_of s old) (caller_of s new) went.grown root root.snapshots infos has_infos
 

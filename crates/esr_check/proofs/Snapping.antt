@@ -9,12 +9,12 @@ use Rattle.esr_model.specs.Names.{BlobName, Root, Snap, Meta, IndexMeta}
 use Rattle.esr_model.specs.Values.{Has, IsOneEach, IndexRef, RootSnap, RootData, SnapInfo, GlobalMeta, IndexMetadata}
 use Rattle.esr_model.specs.Image.{global_of}
 use Rattle.esr_model.specs.Agreement.{Agrees}
+use Rattle.esr_model.specs.Lists.{AllPairs-snoc}
 use Rattle.esr_core.specs.World.{Caller}
 use Rattle.esr_core.specs.Entry.{Moment}
 use Rattle.esr_desk.specs.Start.{Start, formats_of}
 use Rattle.esr_desk.specs.Own.{caller_of}
 use Rattle.esr_desk.specs.Check.Shown.{ReadAs, Disagree, InfoBeside, GlobalBeside, IndexMetaBeside}
-use Rattle.esr_restore.specs.Pairs.{pairs_push}
 use Rattle.esr_check.specs.Went.{Grown, Went}
 use Rattle.esr_check.specs.Pieces.{HasRoot, HasMetas, HasInfo, HasInfosOf}
 use Rattle.esr_check.proofs.Going.{read_more, infos_more, root_on}
@@ -27,7 +27,7 @@ pub infos_next : (s : Start) (c d : Caller) (root : RootData) (items : List Code
 infos_next s c d root items i x infos info grown less is before here =
     subst (λ (snaps : List RootSnap). HasInfosOf s d root snaps (map info_of_code (infos ++ info ∷ []))) (sym (next_item root_snap_of items i x less is))
     (subst (λ (ys : List SnapInfo). HasInfosOf s d root (map root_snap_of (take i items) ++ root_snap_of x ∷ []) ys) (sym (map_push info_of_code infos info))
-    (pairs_push (HasInfo s d root) (map root_snap_of (take i items)) (map info_of_code infos) (root_snap_of x) (info_of_code info)
+    (AllPairs-snoc (HasInfo s d root) (map root_snap_of (take i items)) (map info_of_code infos) (root_snap_of x) (info_of_code info)
     (infos_more s c d grown root (map root_snap_of (take i items)) (map info_of_code infos) before) here))
 
 -- ---- a snapshot, piece by piece

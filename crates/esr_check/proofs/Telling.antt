@@ -16,10 +16,10 @@ use Rattle.esr_desk.specs.Entries.{why_of}
 use Rattle.esr_unit.specs.declared.trouble.Trouble.{Trouble}
 use Rattle.esr_unit.specs.declared.trouble.Trouble.TheVariants as troubles
 use Rattle.esr_unit.specs.Ending.{unread_as}
+use Rattle.esr_unit.specs.Refusals.{passed_on}
 use Rattle.esr_check.specs.Names.{Just}
 use Rattle.esr_check.specs.Trouble.{IsOther, IsCutOtherwise, Judged}
 use Rattle.esr_check.specs.First.{IsNext, NamesOne, TellsOne}
-use Rattle.esr_check.proofs.Refusing.{passed}
 
 -- ---- of more blobs
 
@@ -41,7 +41,7 @@ if_tells P Q each (Err trouble) h = tells_more P Q each trouble h
 -- a trouble that was passed on
 pub passes : {X S F : Type 0} (P Q : BlobName → Type 0) (result : Result X (Trouble S F)) (trouble : Trouble S F) → IsErrAnd result (λ x. x ≡ trouble) → ((name : BlobName) → P name → Q name) → TellsOne P trouble
     → IfErr result (TellsOne Q)
-passes P Q result trouble is each h = passed result (TellsOne Q) trouble is (tells_more P Q each trouble h)
+passes P Q result trouble is each h = passed_on result (TellsOne Q) trouble is (tells_more P Q each trouble h)
 
 -- a text that wasn't read
 unread_one : (S F : Type 0) (name : CodeName) (refusal : ReadRefusal) → TellsOne {S = S} {F = F} (Just (name_of name)) (unread_as name refusal)

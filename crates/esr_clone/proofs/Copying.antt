@@ -183,7 +183,8 @@ module _ (s : Start) (at : ShardId) (uuid : Id) (base : IndexValue) (snap : Snap
   new_read = writes_keep (λ (t : Ticket). t.read) (λ t n w. refl) s last old new refl
 
   new_based : s.tells ≡ true → Based (formats_of s) new at.index.number at.number new.base (shard_index_of base)
-  new_based tells = subst (λ (b : Option ℕ). Based (formats_of s) new at.index.number at.number b (shard_index_of base)) (sym new_base) (based_on (formats_of s) old new at.index.number at.number old.base (shard_index_of base) new_read (has.based tells))
+  new_based tells =
+      subst (λ (b : Option ℕ). Based (formats_of s) new at.index.number at.number b (shard_index_of base)) (sym new_base) (based_on (formats_of s) old new at.index.number at.number old.base (shard_index_of base) new_read (has.based tells))
 
   was_read : s.tells ≡ true → Reads (WasRead new.read) (ShardSnap at.index.number at.number has.source) (formats_of s).shard_snap (shard_snap_of snap)
   was_read tells =

@@ -1,9 +1,8 @@
 -- What a delete that is asked for makes of the open ops, and that the history tells which of them it aborts.
-use Rattle.std.proofs.Common.{◌≡◌, ◌⊎◌, ℕ, Bool, true, false, true≢false, not, ◌&&◌, ◌||◌, ◌==◌, List, [], ◌∷◌, Option, Some, None, refl, sym, ap, ◌∙◌, subst, inl, inr}
+use Rattle.std.proofs.Common.{◌≡◌, ◌⊎◌, ℕ, Bool, true, true≢false, not, ◌||◌, ◌==◌, List, [], ◌∷◌, Option, Some, None, refl, sym, ap, ◌∙◌, subst, inl, inr}
 use Rattle.std.specs.Prelude.{option_map}
-use Rattle.std.specs.List.{list_any}
 use Rattle.std.specs.FinMap as fin
-use Rattle.std.proofs.lemmas.Bool.{eq-eqb, cases_Bool, cond-true, cond-false}
+use Rattle.std.proofs.lemmas.Bool.{eq-eqb, cases_Bool, cond-true, cond-false, and_parts, and_from, not-true, or_right}
 use Rattle.std.proofs.lemmas.Option.{same_Some, none-some}
 use Rattle.esr_core.specs.Laws.NumberMaps.{split_at}
 use Rattle.esr_model.specs.Values.{Bytes, Has, Formats}
@@ -13,34 +12,12 @@ use Rattle.esr_core.specs.Deletes.{named_uuids, has_op, is_swap, swaps_op, is_sw
 use Rattle.esr_core.specs.Ids.{Law}
 use Rattle.esr_core.specs.Allowed.{IsNameOf}
 use Rattle.esr_core.specs.Laws.AbortLaws.{aborted_at}
-use Rattle.esr_core.specs.Laws.Tests.{same_true}
+use Rattle.esr_core.specs.Laws.Tests.{same_true, any_of}
 use Rattle.esr_core.specs.Laws.DeleteAsks.{named_is, more_named}
 use Rattle.esr_core.specs.Laws.DeleteRoots.{names_has}
 use Rattle.esr_core.specs.Laws.Maps.{got_entry}
 use Rattle.esr_report.specs.Replies.{has_name}
 use Rattle.esr_complete.proofs.Following.{IsFinal, IsOutFinal}
-
--- ---- tests
-
-both : (a b : Bool) → (a && b) ≡ true → (a ≡ true) × (b ≡ true)
-both true b e = (refl, e)
-both false b e = absurd (true≢false (sym e))
-
-and_true : (a b : Bool) → a ≡ true → b ≡ true → (a && b) ≡ true
-and_true a b p q = ap (λ (x : Bool). x && b) p ∙ q
-
-not_true : (b : Bool) → not b ≡ true → b ≡ false
-not_true true e = absurd (true≢false (sym e))
-not_true false e = refl
-
-either_true : (a b : Bool) → b ≡ true → (a || b) ≡ true
-either_true true b e = refl
-either_true false b e = e
-
-any_of : {X : Type 0} (test : X → Bool) (xs : List X) (x : X) → Has xs x → test x ≡ true → list_any test xs ≡ true
-any_of test [] x m e = absurd m
-any_of test (y ∷ xs) x (inl same) e = ap (λ (b : Bool). b || list_any test xs) (ap test same ∙ e)
-any_of test (y ∷ xs) x (inr m) e = either_true (test y) (list_any test xs) (any_of test xs x m e)
 
 -- ---- each op after it
 
@@ -83,21 +60,21 @@ final_swap Drop m = absurd m
 -- none of which a finalization is out
 pub not_out : (w : World) (uuids : List ℕ) (o : ℕ) (op : Op) (k : ℕ) (t : Ticket) → aborts_op w uuids (o, op) ≡ true → fin.get w.tickets k ≡ Some t → t.term ≡ w.term → t.op ≡ o → IsOutFinal t → ⊥
 not_out w uuids o op k t aborts there present of is =
-    let parts = both (is_unaborted op.aborted) (not (is_swapped w o)) (both (names_uuid uuids op.uuid) _ aborts).1 in
+    let parts = and_parts (is_unaborted op.aborted) (not (is_swapped w o)) (and_parts (names_uuid uuids op.uuid) _ aborts).1 in
     let swaps : swaps_op w.term o (k, t) ≡ true =
-    and_true (has_op w.term o (k, t)) _ (and_true t.out _ is.out (and_true (t.term == w.term) (t.op == o) (eq-eqb _ _ present) (eq-eqb _ _ of))) (and_true (not t.settled) _ (ap not is.unsettled) (final_swap t.work is.final)) in
-    true≢false (sym (any_of (swaps_op w.term o) (fin.entries w.tickets) (k, t) (got_entry w.tickets k t there) swaps) ∙ not_true (is_swapped w o) parts.1)
+    and_from (has_op w.term o (k, t)) _ (and_from t.out _ is.out (and_from (t.term == w.term) (t.op == o) (eq-eqb _ _ present) (eq-eqb _ _ of))) (and_from (not t.settled) _ (ap not is.unsettled) (final_swap t.work is.final)) in
+    true≢false (sym (any_of (swaps_op w.term o) (fin.entries w.tickets) (k, t) (got_entry w.tickets k t there) swaps) ∙ not-true (is_swapped w o) parts.1)
 
 named_has : (names : List Bytes) (name : Bytes) → Has names name → has_name names name ≡ true
 named_has [] name m = absurd m
 named_has (x ∷ names) name (inl same) = ap (λ (b : Bool). b || has_name names name) (same_true x name same)
-named_has (x ∷ names) name (inr m) = either_true _ (has_name names name) (named_has names name m)
+named_has (x ∷ names) name (inr m) = or_right _ (has_name names name) (named_has names name m)
 
 -- and only such as it names by their name
 pub names_it : (f : Formats) (w : World) (shelf : List Shelved) → Law f w shelf → (names : List Bytes) (o : ℕ) (op : Op) → fin.get w.ops o ≡ Some op → aborts_op w (named_uuids w names) (o, op) ≡ true → has_name names op.name ≡ true
 names_it f w shelf law names o op there aborts =
     let m = more_named w names [] in
-    let (name, has, e) = m.from op.uuid (subst (λ (us : List ℕ). Has us op.uuid) m.is (names_has (named_uuids w names) op.uuid (both (names_uuid (named_uuids w names) op.uuid) _ aborts).0)) in
+    let (name, has, e) = m.from op.uuid (subst (λ (us : List ℕ). Has us op.uuid) m.is (names_has (named_uuids w names) op.uuid (and_parts (names_uuid (named_uuids w names) op.uuid) _ aborts).0)) in
     named_has names op.name (subst (Has names) (same name (named_is w name op.uuid e)) has)
   where
     same : (name : Bytes) → IsNameOf w name op.uuid → name ≡ op.name

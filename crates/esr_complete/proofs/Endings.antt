@@ -1,7 +1,7 @@
 -- How a run ends whose lines were answered.
 use Rattle.std.proofs.Common.{◌≡◌, ◌⊎◌, ℕ, suc, ◌^◌, ◌<◌, Bool, true, false, not, ◌||◌, nat_lt, if◌then◌else◌, List, [], ◌∷◌, ◌++◌, length, Option, None, refl, ap, ◌∙◌, inl, inr, arith}
 use Rattle.std.specs.List.{list_any}
-use Rattle.std.proofs.lemmas.Bool.{le-ltb, lt-ltb}
+use Rattle.std.proofs.lemmas.Bool.{le-ltb, lt-ltb, or_from}
 use Rattle.esr_model.specs.Names.{BlobName}
 use Rattle.esr_model.specs.Values.{Has}
 use Rattle.esr_core.specs.After.{or_else}
@@ -70,25 +70,22 @@ record AllCalm (lines : List ScriptLine) (rs : List Reply) : Type 0 where
   unspent : list_any is_spent rs ≡ false
   as_many : length rs ≡ length lines
 
-neither : (a b : Bool) → a ≡ false → b ≡ false → (a || b) ≡ false
-neither a b x y = ap (λ (c : Bool). c || b) x ∙ y
-
 all_calm : (script before lines : List ScriptLine) (rs : List Reply) → AreAnsweredIn script before lines rs → AllCalm lines rs
 all_calm script before [] [] h = record { undeposed = refl; undamaged = refl; unspent = refl; as_many = refl }
 all_calm script before (line ∷ lines) (reply ∷ rs) h =
     let one = calm_reply reply (fine_answer script before line.item reply h.0) in
     let rest = all_calm script (before ++ line ∷ []) lines rs h.1 in
     record {
-      undeposed = neither (is_deposed reply) (list_any is_deposed rs) one.undeposed rest.undeposed;
+      undeposed = or_from (is_deposed reply) (list_any is_deposed rs) one.undeposed rest.undeposed;
       undamaged = ap (λ (a : Option BlobName). or_else a (first_damaged rs)) one.undamaged ∙ rest.undamaged;
-      unspent = neither (is_spent reply) (list_any is_spent rs) one.unspent rest.unspent;
+      unspent = or_from (is_spent reply) (list_any is_spent rs) one.unspent rest.unspent;
       as_many = ap (λ (n : ℕ). suc n) rest.as_many;
     }
 all_calm script before lines rs h = absurd h
 
 unfallen : (script : List ScriptLine) (all es : List Entry) → ((x : Entry) → Has es x → Fact script all x) → has_fallen es ≡ false
 unfallen script all [] facts = refl
-unfallen script all (x ∷ es) facts = neither (fails_swap x.step x.reply) (has_fallen es) (facts x (inl refl)).unfallen (unfallen script all es (λ y has. facts y (inr has)))
+unfallen script all (x ∷ es) facts = or_from (fails_swap x.step x.reply) (has_fallen es) (facts x (inl refl)).unfallen (unfallen script all es (λ y has. facts y (inr has)))
 
 not_less : (m n : ℕ) → m ≡ n → nat_lt m n ≡ false
 not_less m n e = le-ltb m n (omega (arith, e))
@@ -112,10 +109,11 @@ ends : (lines : List ScriptLine) (rs : List Reply) (history : List Entry) → ha
     → (if is_deposed (end_reply history) || list_any is_deposed rs then SwapFailed
     else ending_by (first_damaged rs) ((list_any is_spent rs || nat_lt (length rs) (length lines)) || not (is_short history)) (are_ok rs)) ≡ ending_by None false (are_ok rs)
 ends lines rs history none short c =
-    ap (λ (b : Bool). if b then SwapFailed else ending_by (first_damaged rs) ((list_any is_spent rs || nat_lt (length rs) (length lines)) || not (is_short history)) (are_ok rs)) (neither (is_deposed (end_reply history)) (list_any is_deposed rs) (ap (λ (b : Bool). is_deposed (wait_reply b)) none) c.undeposed)
+    ap (λ (b : Bool). if b then SwapFailed else ending_by (first_damaged rs) ((list_any is_spent rs || nat_lt (length rs) (length lines)) || not (is_short history)) (are_ok rs))
+    (or_from (is_deposed (end_reply history)) (list_any is_deposed rs) (ap (λ (b : Bool). is_deposed (wait_reply b)) none) c.undeposed)
     ∙ ap (λ (a : Option BlobName). ending_by a ((list_any is_spent rs || nat_lt (length rs) (length lines)) || not (is_short history)) (are_ok rs)) c.undamaged
     ∙ ap (λ (b : Bool). ending_by None b (are_ok rs))
-    (neither (list_any is_spent rs || nat_lt (length rs) (length lines)) (not (is_short history)) (neither (list_any is_spent rs) (nat_lt (length rs) (length lines)) c.unspent (not_less (length rs) (length lines) c.as_many)) (ap not short))
+    (or_from (list_any is_spent rs || nat_lt (length rs) (length lines)) (not (is_short history)) (or_from (list_any is_spent rs) (nat_lt (length rs) (length lines)) c.unspent (not_less (length rs) (length lines) c.as_many)) (ap not short))
 
 pub ends_well : (lines : List ScriptLine) (history : List Entry) → ((x : Entry) → Has history x → Fact lines history x) → is_short history ≡ true → AreAnswered lines (replies lines history) → EndsWell lines history
 unfolding ending

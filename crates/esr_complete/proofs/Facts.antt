@@ -1,7 +1,7 @@
 -- What each entry of a history where nothing fails answers to a line.
 use Rattle.std.proofs.Common.{◌≡◌, ◌⊎◌, ◌||◌, ◌&&◌, ◌==◌, ℕ, Bool, true, false, true≢false, List, [], ◌∷◌, ◌++◌, Option, Some, None, refl, sym, ap, ◌∙◌, subst, inl, inr}
 use Rattle.std.proofs.lemmas.Option.{same_Some}
-use Rattle.std.proofs.lemmas.Bool.{cond-true}
+use Rattle.std.proofs.lemmas.Bool.{cond-true, false_from_ne_true}
 use Rattle.esr_model.specs.Values.{Bytes, Has}
 use Rattle.esr_core.specs.Entry as entry
 use Rattle.esr_core.specs.Entry.{AskedIndex, CloneOf, Asked, Snapshot, Clone, DeleteSnapshots, Cleanup, SettlePruned, Restore, Step, AskStep, SettleStep, DroppedStep, ElectStep, LookStep, PruneStep, Refusal, CleanupRunning, DeposedAt, StaleTerm, DepotFault, Accepted, WasSettled, HasEnded, AcceptedRestore, ElectedTerm, Looked, Entry, Moment}
@@ -20,9 +20,9 @@ use Rattle.esr_quiet.specs.Refusals.{IsByRule, IsOfCleanup, IsOfRule, IsOfTerm, 
 use Rattle.esr_quiet.specs.Smooth.{IsSmooth, NoneFailed, NoneUndeleted, NoneUnrestored}
 use Rattle.esr_complete.specs.Lines.{entries_of}
 use Rattle.esr_complete.specs.Answers.{IsIdle, IsDeletedBy, IsCleaningBy, IsAnswer}
-use Rattle.esr_core.specs.Laws.Tests.{same_one}
+use Rattle.esr_core.specs.Laws.Tests.{same_one, same_number}
 use Rattle.esr_model.specs.Lists.{Has-mapped}
-use Rattle.esr_complete.proofs.Tickets.{is_cleanup_op, same_op}
+use Rattle.esr_complete.proofs.Tickets.{is_cleanup_op}
 use Rattle.esr_complete.proofs.OpEnds.{IsCalm, AreCalmIn, IsPruned, IsSettled, IsDropped, IsOver, IsOverBy, IsOfKind, WasAborted, IsEnded, EndsIn, aborted_in, end_found, settled_in, over_found, prune_deleted, drop_cleaned}
 use Rattle.esr_complete.proofs.Following.{IsSaid, delete_of, HasName, IsNameless, IsOverIn, FollowsIn}
 use Rattle.esr_complete.proofs.Steps.{apart_name}
@@ -88,10 +88,6 @@ unfallen_by reply step calm = refl
 
 -- ---- commands
 
-untrue : (b : Bool) → (b ≡ true → ⊥) → b ≡ false
-untrue true none = absurd (none refl)
-untrue false none = refl
-
 -- what is asked of deletes are lines of the script
 abbrev pub AsksAll : List ScriptLine → List Entry → Type 0
 AsksAll script all = (e : Entry) (names : List Bytes) → Has all e → e.step ≡ AskStep (DeleteSnapshots names) → (line : ScriptLine) × Has script line × (line.item ≡ items.Delete names)
@@ -116,10 +112,11 @@ asked_by : (script before : List ScriptLine) (all : List Entry) (of : Bytes) (re
     → AreEnded all (AskStep (Snapshot of refs moment)) reply → IsAnswerOf script before (items.Snapshot of indices) (ask_reply all reply)
 asked_by script before all of refs moment (Accepted op) indices calm said cleaning asks ended =
     let (name, by, is, how) = ended op refl in
-    let same : of ≡ name = same_Some of name (sym (cond-true _ _ _ (same_op op)) ∙ by) in
+    let same : of ≡ name = same_Some of name (sym (cond-true _ _ _ (same_number op)) ∙ by) in
     elim how [
       | inl made ↦ subst (λ (a : Option Reply). IsAnswerOf script before (items.Snapshot of indices) (or_else a (deposed_by (has_fallen all)))) (sym made.is) tt
-      | inr aborted ↦ subst (λ (a : Option Reply). IsAnswerOf script before (items.Snapshot of indices) (or_else a (deposed_by (has_fallen all)))) (sym aborted.is) (subst (IsDeletedBy script) (sym same) (deleted_line script all op name (end_of_op all op [] all) asks is aborted))
+      | inr aborted ↦ subst (λ (a : Option Reply). IsAnswerOf script before (items.Snapshot of indices) (or_else a (deposed_by (has_fallen all))))
+          (sym aborted.is) (subst (IsDeletedBy script) (sym same) (deleted_line script all op name (end_of_op all op [] all) asks is aborted))
     ]
 asked_by script before all of refs moment (entry.Refused refusal) indices calm said cleaning asks ended =
     subst (λ (r : Reply). IsAnswerOf script before (items.Snapshot of indices) (Some r)) (sym (ruled_reply (Snapshot of refs moment) refusal calm)) (calm, cleaning)
@@ -131,10 +128,11 @@ cloned_by : (script before : List ScriptLine) (all : List Entry) (source of : By
     → IsAnswerOf script before (items.Clone from of indices) (ask_reply all reply)
 cloned_by script before all source of names moment (Some taken) (Accepted op) from indices calm said cleaning asks ended =
     let (name, by, is, how) = ended op refl in
-    let same : of ≡ name = same_Some of name (sym (cond-true _ _ _ (same_op op)) ∙ by) in
+    let same : of ≡ name = same_Some of name (sym (cond-true _ _ _ (same_number op)) ∙ by) in
     elim how [
       | inl made ↦ subst (λ (a : Option Reply). IsAnswerOf script before (items.Clone from of indices) (or_else a (deposed_by (has_fallen all)))) (sym made.is) tt
-      | inr aborted ↦ subst (λ (a : Option Reply). IsAnswerOf script before (items.Clone from of indices) (or_else a (deposed_by (has_fallen all)))) (sym aborted.is) (subst (IsDeletedBy script) (sym same) (deleted_line script all op name (end_of_op all op [] all) asks is aborted))
+      | inr aborted ↦ subst (λ (a : Option Reply). IsAnswerOf script before (items.Clone from of indices) (or_else a (deposed_by (has_fallen all))))
+          (sym aborted.is) (subst (IsDeletedBy script) (sym same) (deleted_line script all op name (end_of_op all op [] all) asks is aborted))
     ]
 cloned_by script before all source of names moment taken (entry.Refused refusal) from indices calm said cleaning asks ended =
     subst (λ (r : Reply). IsAnswerOf script before (items.Clone from of indices) (Some r)) (sym (ruled_reply (Clone source of names moment taken) refusal calm)) (calm, cleaning)
@@ -208,10 +206,12 @@ fact_by script all e calm said asks_before asks ended deleted answered =
       asked = λ before cleaning of refs moment is indices.
           asked_by script before all of refs moment e.reply indices (subst (IsCalm (Unit {0}) e.reply) is calm) (subst (λ (step : Step). IsSaid step e.reply) is said) cleaning asks (subst (λ (step : Step). AreEnded all step e.reply) is ended);
       cloned = λ before cleaning source of names moment taken is from indices.
-          cloned_by script before all source of names moment taken e.reply from indices (subst (IsCalm (Unit {0}) e.reply) is calm) (subst (λ (step : Step). IsSaid step e.reply) is said) cleaning asks (subst (λ (step : Step). AreEnded all step e.reply) is ended);
+          cloned_by script before all source of names moment taken e.reply from indices (subst (IsCalm (Unit {0}) e.reply) is calm)
+          (subst (λ (step : Step). IsSaid step e.reply) is said) cleaning asks (subst (λ (step : Step). AreEnded all step e.reply) is ended);
       deleted = λ before cleaning names is.
           deleted_by script before all names e.reply (subst (IsCalm (Unit {0}) e.reply) is calm) (subst (λ (step : Step). IsSaid step e.reply) is said) cleaning (subst (λ (step : Step). AreDeleted all step e.reply) is deleted);
-      cleaned = λ before cleaning is. cleaned_by script before all e.reply (subst (IsCalm (Unit {0}) e.reply) is calm) (subst (λ (step : Step). IsSaid step e.reply) is said) cleaning (subst (λ (step : Step). AreDeleted all step e.reply) is deleted);
+      cleaned =
+          λ before cleaning is. cleaned_by script before all e.reply (subst (IsCalm (Unit {0}) e.reply) is calm) (subst (λ (step : Step). IsSaid step e.reply) is said) cleaning (subst (λ (step : Step). AreDeleted all step e.reply) is deleted);
       restored = λ before of place is name at. restored_by script before all of place e.reply name at (subst (IsCalm (Unit {0}) e.reply) is calm) (subst (λ (step : Step). IsSaid step e.reply) is said) answered;
       looked = λ before is. looked_by script before e.reply (subst (λ (step : Step). IsSaid step e.reply) is said);
       elected = λ before elects.
@@ -246,7 +246,7 @@ module _ (w : World) (all : List Entry) (h : FollowsIn w all) (calm : AreCalmIn 
       (λ e has of dropped.
       let is = dropped_is e.step e.reply dropped in
       let (d, op, nameless) = h.leaves e has is.0 is.1 in
-      untrue (is_cleanup_ticket all e.who) (λ cleans. apart_name all w.next_op true o d name (nameless cleans) (same_Some o d (sym of ∙ op))))
+      false_from_ne_true (is_cleanup_ticket all e.who) (λ cleans. apart_name all w.next_op true o d name (nameless cleans) (same_Some o d (sym of ∙ op))))
       ends
 
   ended : (e : Entry) → Has all e → AreEnded all e.step e.reply

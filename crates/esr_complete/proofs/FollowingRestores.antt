@@ -2,7 +2,7 @@
 use Rattle.std.proofs.Common.{◌≡◌, ◌⊎◌, ℕ, suc, ◌<◌, ◌≤◌, Bool, true, false, true≢false, List, [], ◌∷◌, ◌++◌, Option, Some, None, map, refl, sym, ap, ◌∙◌, subst, inl, inr, arith, nat_cmp}
 use Rattle.std.specs.FinMap.{FinMap}
 use Rattle.std.specs.FinMap as fin
-use Rattle.std.proofs.lemmas.Option.{same_Some}
+use Rattle.std.proofs.lemmas.Option.{same_Some, none-some}
 use Rattle.esr_core.specs.Laws.NumberMaps.{was_in, same_in, other_in, split_at}
 use Rattle.esr_model.specs.Values.{Bytes, Has, IndexRef}
 use Rattle.esr_model.specs.Places.{places}
@@ -13,7 +13,6 @@ use Rattle.esr_core.specs.Entry.{Restore, GivenRestore, RestoredShard, Step, Ask
 use Rattle.esr_report.specs.Replies.{ReadShard, same_shard, shard_ticket_by, shard_ticket, shard_end_by, shard_end_at, ticket_end, read_shard}
 use Rattle.esr_model.specs.Lists.{Has-map, Has-append, Has-mapped}
 use Rattle.esr_core.specs.Laws.RestoreMaps.{LeavesPlace, handed_is, ended_is, handed_place, ended_place, some_waits, begun_unread, put_was, put_other, put_same}
-use Rattle.esr_complete.proofs.Tickets.{none_some}
 use Rattle.esr_complete.proofs.Following.{gave, told}
 use Rattle.esr_complete.proofs.RestoreTickets.{ticket_stays, ticket_given, end_given, ends_none, other_end, own_end, other_op, other_place, ticket_same, ticket_other, IsRestored, restored_stays}
 
@@ -148,7 +147,7 @@ module _ (restores : Restores) (readers : Readers) (next_op next_ticket : ℕ) (
         fresh = λ k le. end_given es x k (h.fresh k (omega (arith, more_tickets, le))) ∙ quiet.no_end k (let first : 1 ≤ next_ticket = t.first in omega (arith, first, more_tickets, le));
         untaken = λ y le. ticket_given es x y (h.untaken y (omega (arith, more_ops, le))) ∙ quiet.no_ticket y;
         shards = λ o r s e m. told_stays es x (shard_at o r s) s.state (h.shards o r s e m) (quiet.no_ticket (shard_at o r s));
-        asked = restored_on restores restores es x h.asked (λ o uuid p was. inl was) (λ a e. absurd (none_some a (sym quiet.no_restore ∙ e)));
+        asked = restored_on restores restores es x h.asked (λ o uuid p was. inl was) (λ a e. absurd (none-some a (sym quiet.no_restore ∙ e)));
       }
 
   -- ---- a restore is opened
@@ -240,7 +239,7 @@ module _ (restores : Restores) (readers : Readers) (next_op next_ticket : ℕ) (
                     (open_on restores now o r (handed next_ticket s.ref.id s.number) (handed_place next_ticket s.ref.id s.number) there (same_in restores o new) u place (subst (λ (n : ℕ). IsOpenAt restores n u place) same was))
                 | inr apart ↦ open_same restores now p u place (other_in restores o new p apart) was
               ]))
-              (λ a e. absurd (none_some a e));
+              (λ a e. absurd (none-some a e));
         }
 
   -- ---- a shard is restored
@@ -309,5 +308,5 @@ module _ (restores : Restores) (readers : Readers) (next_op next_ticket : ℕ) (
                     (end_open (any_waits new.shards) refl u p (subst (λ (n : ℕ). IsOpenAt restores n u p) same was))
                 | inr apart ↦ inl (open_same restores now o u p (put_other restores q.op new o apart) was)
               ])
-              (λ a e. absurd (none_some a e));
+              (λ a e. absurd (none-some a e));
         }

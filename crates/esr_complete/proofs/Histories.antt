@@ -2,6 +2,7 @@
 use Rattle.std.proofs.Common.{◌≡◌, ◌⊎◌, ℕ, zero, suc, ◌+◌, ◌<◌, true, false, true≢false, List, [], ◌∷◌, ◌++◌, Option, Some, append_assoc, append-nil, refl, sym, ap, ◌∙◌, subst, inl, inr, arith}
 use Rattle.std.specs.Prelude.{length}
 use Rattle.std.specs.FinMap as fin
+use Rattle.std.proofs.lemmas.Option.{none-some}
 use Rattle.esr_core.specs.Laws.NumberMaps.{was_in}
 use Rattle.esr_model.specs.Names.{BlobName}
 use Rattle.esr_model.specs.Values.{Bytes, Has, RootIndex, RootData, ClusterRecord, Formats}
@@ -27,7 +28,6 @@ use Rattle.esr_quiet.specs.PrefixLaws.{place_of, has_at, smooth_front}
 use Rattle.esr_quiet.specs.RootNames.{root_named}
 use Rattle.esr_complete.specs.Lines.{entries_of}
 use Rattle.esr_complete.specs.Answers.{IsIdle}
-use Rattle.esr_complete.proofs.Tickets.{none_some}
 use Rattle.esr_complete.proofs.OpEnds.{IsCalm, AreCalmIn}
 use Rattle.esr_complete.proofs.Stale.{IsStaleIn, terms_at, stale_told}
 use Rattle.esr_complete.proofs.Following.{FollowsIn}
@@ -57,7 +57,7 @@ follows_opened blobs cluster root =
       cleans = λ k t e. absurd (nothing k t e);
       fresh = λ k le. (refl, refl, refl);
       units = λ k t e. absurd (nothing k t e);
-      final = λ o k e. absurd (none_some k e);
+      final = λ o k e. absurd (none-some k e);
       said = λ e has. absurd has;
       settles = λ e has. absurd has;
       prunes = λ e has. absurd has;
@@ -183,14 +183,21 @@ root_one s has (suc n) root reads x y has_x has_y =
       one_id = λ same. ap (λ (z : RootIndex). z.id) (root_named s reads.bytes root reads.reads x y has_x has_y same);
     }
 
+-- what it says of opened worlds
+pub record OpenedLaws : Type 0 where
+  pub opening : (f : Formats) (image : Image) (shelf : List Shelved) (w : World) → Kept f image shelf → Opened f image w → Law f w shelf
+  pub tracked : (blobs : Blobs) (cluster : ClusterRecord) (root : RootData) → RootIds root (first_id (suc cluster.ledger.term)) → ((x y : RootIndex) → Has root.indices x → Has root.indices y → IsOneIndex x.name x.id y.name y.id)
+      → Tracked (opened blobs cluster root)
+  pub read_tracked : (blobs : Blobs) (cluster : ClusterRecord) (root : RootData) → ReadTracked (opened blobs cluster root)
+
 -- the opened world is in order
-opened_in_order : Laws → (s : Start) (image : Image) (shelf : List Shelved) (w : World) → Kept (formats_of s) image shelf → Opened (formats_of s) image w → Tracked w × ReadTracked w
+pub opened_in_order : OpenedLaws → (s : Start) (image : Image) (shelf : List Shelved) (w : World) → Kept (formats_of s) image shelf → Opened (formats_of s) image w → Tracked w × ReadTracked w
 opened_in_order laws s image shelf w kept (OpenedEmpty none) =
     let ids = (laws.opening (formats_of s) image shelf w kept (OpenedEmpty none)).ids in
-    (laws.opened_tracked image.blobs no_record no_root ids.root (λ x y has_x has_y. absurd has_x), laws.opened_read_tracked image.blobs no_record no_root)
+    (laws.tracked image.blobs no_record no_root ids.root (λ x y has_x has_y. absurd has_x), laws.read_tracked image.blobs no_record no_root)
 opened_in_order laws s image shelf w kept (OpenedRecord cluster text root is reads root_is) =
     let ids = (laws.opening (formats_of s) image shelf w kept (OpenedRecord cluster text root is reads root_is)).ids in
-    (laws.opened_tracked image.blobs cluster root ids.root (root_one s (At (formats_of s) image.blobs) cluster.ledger.safe root root_is), laws.opened_read_tracked image.blobs cluster root)
+    (laws.tracked image.blobs cluster root ids.root (root_one s (At (formats_of s) image.blobs) cluster.ledger.safe root root_is), laws.read_tracked image.blobs cluster root)
 
 pub read_opened : Laws → (f : Formats) (image : Image) (w : World) → Opened f image w → ReadLaw f w
 read_opened laws f image w (OpenedEmpty none) = laws.restores_open f image.blobs no_record no_root
@@ -207,7 +214,7 @@ pub all_closed : Laws → (s : Start) (log : List Moment) → IsSmooth s log →
 all_closed laws s log smooth idle o stands =
     let f = formats_of s in
     let law = laws.lawful f s.part_size smooth.image smooth.shelf s.world log smooth.kept smooth.opened smooth.legal smooth.told in
-    let in_order = opened_in_order laws s smooth.image smooth.shelf s.world smooth.kept smooth.opened in
+    let in_order = opened_in_order (record { opening = laws.opening; tracked = laws.opened_tracked; read_tracked = laws.opened_read_tracked }) s smooth.image smooth.shelf s.world smooth.kept smooth.opened in
     let tracked : ReadTracked (world_of s log) = laws.tracks f s.part_size s.world log in_order.0 in_order.1 smooth.legal in
     idle.none_ready
     (laws.ready f (world_of s log) (shelf_after smooth.shelf (committed f (world_of s log).safe s.world log)) o law tracked (inl stands)

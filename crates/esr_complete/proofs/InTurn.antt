@@ -1,6 +1,6 @@
 -- Where no verification and no check fails each draw, and each look of a check, is followed by the end of what it began, before a line
 -- asks for more.
-use Rattle.std.proofs.Common.{◌≡◌, ◌≢◌, ◌⊎◌, ℕ, Bool, true, false, ◌==◌, ◌&&◌, if◌then◌else◌, List, [], ◌∷◌, ◌++◌, append-nil, append_assoc, Option, Some, None, option_to_list, refl, sym, ap, ◌∙◌, subst, inl, inr}
+use Rattle.std.proofs.Common.{◌≡◌, ◌≢◌, ℕ, Bool, true, false, ◌==◌, ◌&&◌, if◌then◌else◌, List, [], ◌∷◌, ◌++◌, append-nil, append_assoc, Option, Some, None, option_to_list, refl, sym, ap, ◌∙◌, subst, inl, inr}
 use Rattle.std.proofs.lemmas.Bool.Decides.{eqb_tells}
 use Rattle.esr_model.specs.Names.{BlobName}
 use Rattle.esr_model.specs.Values.{Bytes, Has, Formats}
@@ -14,6 +14,7 @@ use Rattle.esr_script.specs.declared.item.Item.{Item}
 use Rattle.esr_script.specs.declared.item.Item.TheVariants as items
 use Rattle.esr_script.specs.declared.item.ScriptLine.{ScriptLine}
 use Rattle.esr_script.specs.Kinds.{is_check, asks_step}
+use Rattle.esr_model.specs.Lists.{Has-either}
 use Rattle.esr_report.specs.Replies.{is_line_step, is_of_line}
 use Rattle.esr_desk.specs.Check.Shown.{AllFetches}
 use Rattle.esr_desk.specs.Start.{Start, formats_of, world_of}
@@ -85,13 +86,9 @@ behind n log step false h = h
 pub in_asked : (log : List Moment) (m : Moment) → Has log m → is_asked m.entry ≡ true → Has (asked_steps log) (as_asked m.entry.step)
 in_asked [] m h asked = absurd h
 in_asked (n ∷ log) m (inl e) asked =
-    subst (λ (l : List Step). Has l (as_asked m.entry.step)) (sym (ap (λ (b : Bool). if b then as_asked n.entry.step ∷ asked_steps log else asked_steps log) (ap (λ (x : Moment). is_asked x.entry) e ∙ asked))) (inl (ap (λ (x : Moment). as_asked x.entry.step) e))
+    subst (λ (l : List Step). Has l (as_asked m.entry.step))
+    (sym (ap (λ (b : Bool). if b then as_asked n.entry.step ∷ asked_steps log else asked_steps log) (ap (λ (x : Moment). is_asked x.entry) e ∙ asked))) (inl (ap (λ (x : Moment). as_asked x.entry.step) e))
 in_asked (n ∷ log) m (inr h) asked = behind n log (as_asked m.entry.step) (is_asked n.entry) (in_asked log m h asked)
-
-either_list : (a b : List Step) (step : Step) → Has (a ++ b) step → Has a step ⊎ Has b step
-either_list [] b step h = inr h
-either_list (x ∷ a) b step (inl e) = inl (inl e)
-either_list (x ∷ a) b step (inr h) = elim (either_list a b step h) [ inl own ↦ inl (inr own) | inr later ↦ inr later ]
 
 -- where there is a step, a line asks for such a one
 abbrev IsLineOf : Option Step → Type 0
@@ -109,7 +106,7 @@ one_step (Some x) step line (inr h) = absurd h
 
 lines_step : (moment : ℕ) (lines : List ScriptLine) (step : Step) → Has (steps_of moment lines) step → IsLineStep step
 lines_step moment [] step h = absurd h
-lines_step moment (line ∷ lines) step h = elim (either_list (steps_of_item moment line.item) (steps_of moment lines) step h) [
+lines_step moment (line ∷ lines) step h = elim (Has-either (steps_of_item moment line.item) (steps_of moment lines) step h) [
   | inl own ↦ one_step (step_of_item moment line.item) step (item_step moment line.item) own
   | inr later ↦ lines_step moment lines step later
 ]
@@ -117,7 +114,7 @@ lines_step moment (line ∷ lines) step h = elim (either_list (steps_of_item mom
 -- a delete that is asked for is that of a line
 pub lines_delete : (moment : ℕ) (lines : List ScriptLine) (names : List Bytes) → Has (steps_of moment lines) (AskStep (DeleteSnapshots names)) → (line : ScriptLine) × Has lines line × (line.item ≡ items.Delete names)
 lines_delete moment [] names h = absurd h
-lines_delete moment (line ∷ lines) names h = elim (either_list (steps_of_item moment line.item) (steps_of moment lines) (AskStep (DeleteSnapshots names)) h) [
+lines_delete moment (line ∷ lines) names h = elim (Has-either (steps_of_item moment line.item) (steps_of moment lines) (AskStep (DeleteSnapshots names)) h) [
   | inl own ↦ (line, inl refl, delete_item moment line.item names (only_step moment line.item (AskStep (DeleteSnapshots names)) own))
   | inr later ↦ let (found, there, is) = lines_delete moment lines names later in (found, inr there, is)
 ]
@@ -125,7 +122,7 @@ lines_delete moment (line ∷ lines) names h = elim (either_list (steps_of_item 
 -- so is a cleanup
 pub lines_cleanup : (moment : ℕ) (lines : List ScriptLine) → Has (steps_of moment lines) (AskStep Cleanup) → (line : ScriptLine) × Has lines line × (line.item ≡ items.Cleanup)
 lines_cleanup moment [] h = absurd h
-lines_cleanup moment (line ∷ lines) h = elim (either_list (steps_of_item moment line.item) (steps_of moment lines) (AskStep Cleanup) h) [
+lines_cleanup moment (line ∷ lines) h = elim (Has-either (steps_of_item moment line.item) (steps_of moment lines) (AskStep Cleanup) h) [
   | inl own ↦ (line, inl refl, cleanup_item moment line.item (only_step moment line.item (AskStep Cleanup) own))
   | inr later ↦ let (found, there, is) = lines_cleanup moment lines later in (found, inr there, is)
 ]
@@ -236,7 +233,8 @@ turn_of : (f : Formats) (size : ℕ) (w : World) (m : Moment) → m.entry.who �
     → IsCalm (Unit {0}) m.entry.reply m.entry.step → GoesWell m.entry.step m.entry.reply
     → Allows f size w m.entry.who m.entry.step m.entry.reply m.image → OneTurn w.caller.drawn (caller_after f w.caller m.entry.who m.entry.step m.entry.reply m.image).drawn m.entry
 turn_of f size w m nobody lined closed calm well a =
-    subst (λ (k : ℕ). Allows f size w k m.entry.step m.entry.reply m.image → OneTurn w.caller.drawn (caller_after f w.caller k m.entry.step m.entry.reply m.image).drawn (record { who = k; step = m.entry.step; reply = m.entry.reply })) (sym nobody)
+    subst (λ (k : ℕ). Allows f size w k m.entry.step m.entry.reply m.image → OneTurn w.caller.drawn (caller_after f w.caller k m.entry.step m.entry.reply m.image).drawn (record { who = k; step = m.entry.step; reply = m.entry.reply }))
+    (sym nobody)
     (λ (x : Allows f size w 0 m.entry.step m.entry.reply m.image). one_turn f size w m.entry.step m.entry.reply m.image lined closed calm well x) a
 
 -- ---- over a history

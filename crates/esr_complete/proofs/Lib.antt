@@ -8,6 +8,7 @@ pub mod FollowingRestores
 pub mod Steps
 pub mod RestoreSteps
 pub mod Histories
+pub mod Lengths
 pub mod RestoreHistories
 pub mod InTurn
 pub mod Facts

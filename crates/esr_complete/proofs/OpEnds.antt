@@ -1,17 +1,19 @@
 -- How the op of a snapshot and that of a delete or a cleanup end where nothing fails.
 use Rattle.std.proofs.Common.{◌≡◌, ◌⊎◌, ℕ, Bool, true, false, true≢false, List, [], ◌∷◌, ◌++◌, append-nil, append_assoc, Option, Some, None, option_map, if◌then◌else◌, refl, sym, ap, ◌∙◌, subst, inl, inr}
 use Rattle.std.proofs.lemmas.Bool.{eqb-true, cond-true, cond-false, cases_Bool}
+use Rattle.std.proofs.lemmas.Option.{none-some}
 use Rattle.esr_model.specs.Values.{Bytes, Has}
 use Rattle.esr_core.specs.Entry.{DeleteSnapshots, DeleteFails, SettlePruned, Step, AskStep, SettleStep, FailedStep, DroppedStep, PruneStep, Refusal, StaleTerm, Reply, Accepted, WasSettled, HasEnded, Refused, Entry}
 use Rattle.esr_core.specs.World.{World}
 use Rattle.esr_core.specs.Allowed.{Blocks, ByFailedSwap, ByDelete}
 use Rattle.esr_core.specs.After.{or_else}
+use Rattle.esr_core.specs.Laws.Tests.{same_number}
 use Rattle.esr_quiet.specs.Refusals.{IsByRule, IsSwapStep}
 use Rattle.esr_quiet.specs.Askers.{no_abort_rule}
 use Rattle.esr_report.specs.Cleaned.{is_cleanup_ticket, blobs_gone, bytes_gone}
 use Rattle.esr_report.specs.Replies as report
 use Rattle.esr_report.specs.Replies.{Made, Deleted, Cleaned, Aborted, op_of_ticket, uuid_of_ticket, is_op, is_stale, fails_by, delete_of_ticket, cleaned_by, ends_by, ends_at, name_of_op, final_out, has_name, abort_of, aborts_at, end_of_op}
-use Rattle.esr_complete.proofs.Tickets.{none_some, name_stays, name_before, same_op}
+use Rattle.esr_complete.proofs.Tickets.{name_stays, name_before}
 
 -- no unit failed by this entry, nor a delete or a cleanup but where this is so, and no refusal but that of a command by a rule, or of a
 -- stale ticket's swap
@@ -157,13 +159,13 @@ one_reply : (a b : report.Reply) → Some a ≡ Some b → a ≡ b
 one_reply a b e = cc
 
 abort_told : (name : Option Bytes) (k : Option ℕ) (step : Step) (reply : Reply) (answer : report.Reply) → abort_of name k step reply ≡ Some answer → IsAbort name step reply answer
-abort_told None k step reply answer e = absurd (none_some answer e)
-abort_told (Some name) (Some k) step reply answer e = absurd (none_some answer e)
+abort_told None k step reply answer e = absurd (none-some answer e)
+abort_told (Some name) (Some k) step reply answer e = absurd (none-some answer e)
 abort_told (Some name) None (AskStep (DeleteSnapshots names)) (Accepted d) answer e = elim (cases_Bool (has_name names name)) [
   | inl t ↦ record { by = d; of = name; names = names; name_is = refl; step_is = refl; reply_is = refl; named = t; answer_is = sym (one_reply (Aborted d) answer (sym (cond-true _ _ _ t) ∙ e)) }
-  | inr t ↦ absurd (none_some answer (sym (cond-false _ _ _ t) ∙ e))
+  | inr t ↦ absurd (none-some answer (sym (cond-false _ _ _ t) ∙ e))
 ]
-abort_told (Some name) None step reply answer e = absurd (none_some answer e)
+abort_told (Some name) None step reply answer e = absurd (none-some answer e)
 
 -- it is of an op with a name
 pub abort_names : (front : List Entry) (o : ℕ) (e : Entry) (answer : report.Reply) → aborts_at front o e ≡ Some answer → (name : Bytes) × (name_of_op front o ≡ Some name)
@@ -171,7 +173,7 @@ abort_names front o e answer is = let h = abort_told (name_of_op front o) (final
 
 unnamed_abort : (name : Option Bytes) (k : Option ℕ) (step : Step) (reply : Reply) → name ≡ None → abort_of name k step reply ≡ None
 unnamed_abort None k step reply e = refl
-unnamed_abort (Some name) k step reply e = absurd (none_some name (sym e))
+unnamed_abort (Some name) k step reply e = absurd (none-some name (sym e))
 
 -- ---- the end of a snapshot
 
@@ -218,9 +220,9 @@ end_found all o before (x ∷ es) is calm other left found =
   where
     later : (EndsIn all o (before ++ x ∷ []) es → IsEnded all o (end_of_op all o (before ++ x ∷ []) es)) → (ends_at all before o x ≡ None) → (aborts_at before o x ≡ None) → IsEnded all o (end_of_op all o (before ++ x ∷ []) es)
     later on none unaborted = elim found [
-      | inl made ↦ absurd (none_some (Made made.uuid) (sym none ∙ made.is))
+      | inl made ↦ absurd (none-some (Made made.uuid) (sym none ∙ made.is))
       | inr more ↦ elim more [
-        | inl abort ↦ absurd (none_some abort.0 (sym unaborted ∙ abort.1))
+        | inl abort ↦ absurd (none-some abort.0 (sym unaborted ∙ abort.1))
         | inr behind ↦ on behind
       ]
     ]
@@ -255,7 +257,7 @@ settle_made all o uuid e op_is uuid_is step reply b =
       uuid = uuid;
       is =
           ap (λ (a : Option ℕ). if is_op o a then ends_by all (is_stale b e.who) e.who e.step e.reply else None) op_is
-          ∙ ap (λ (own : Bool). if own then ends_by all (is_stale b e.who) e.who e.step e.reply else None) (same_op o)
+          ∙ ap (λ (own : Bool). if own then ends_by all (is_stale b e.who) e.who e.step e.reply else None) (same_number o)
           ∙ ap (λ (x : Step). ends_by all (is_stale b e.who) e.who x e.reply) step
           ∙ ap (λ (x : Reply). ends_by all (is_stale b e.who) e.who SettleStep x) reply
           ∙ ap (option_map Made) uuid_is;
@@ -278,7 +280,7 @@ over_found cleans all o before (x ∷ es) is calm unnamed kinds e has over =
 
     later : (Has es e → IsOverBy cleans (end_of_op all o (before ++ x ∷ []) es)) → ends_at all before o x ≡ None → IsOverBy cleans (end_of_op all o (before ++ x ∷ []) es)
     later on none = elim has [
-      | inl same ↦ absurd (none_some (over before).reply (sym none ∙ ap (λ (y : Entry). ends_at all before o y) same ∙ (over before).is))
+      | inl same ↦ absurd (none-some (over before).reply (sym none ∙ ap (λ (y : Entry). ends_at all before o y) same ∙ (over before).is))
       | inr behind ↦ on behind
     ]
 
@@ -290,7 +292,7 @@ over_found cleans all o before (x ∷ es) is calm unnamed kinds e has over =
 -- what an entry of the ticket of an op answers
 own_end : (all : List Entry) (o : ℕ) (e : Entry) (b : List Entry) → op_of_ticket all e.who ≡ Some o → ends_at all b o e ≡ ends_by all (is_stale b e.who) e.who e.step e.reply
 own_end all o e b op_is =
-    ap (λ (a : Option ℕ). if is_op o a then ends_by all (is_stale b e.who) e.who e.step e.reply else None) op_is ∙ ap (λ (own : Bool). if own then ends_by all (is_stale b e.who) e.who e.step e.reply else None) (same_op o)
+    ap (λ (a : Option ℕ). if is_op o a then ends_by all (is_stale b e.who) e.who e.step e.reply else None) op_is ∙ ap (λ (own : Bool). if own then ends_by all (is_stale b e.who) e.who e.step e.reply else None) (same_number o)
 
 -- the settle of its ticket carries a delete out
 pub prune_deleted : (all : List Entry) (o : ℕ) (e : Entry) → op_of_ticket all e.who ≡ Some o → is_cleanup_ticket all e.who ≡ false → e.step ≡ PruneStep SettlePruned → e.reply ≡ WasSettled → (b : List Entry)

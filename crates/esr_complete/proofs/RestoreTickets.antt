@@ -7,9 +7,10 @@ use Rattle.esr_model.specs.Places.{places}
 use Rattle.esr_core.specs.Entry.{GivenRestore, Gave, Entry}
 use Rattle.esr_core.specs.After.{or_else}
 use Rattle.esr_model.specs.Lists.{Has-mapped}
+use Rattle.esr_core.specs.Laws.Tests.{same_number}
 use Rattle.esr_report.specs.Replies as report
 use Rattle.esr_report.specs.Replies.{ReadShard, ShardEnd, ShardRestored, first_by, same_shard, shard_ticket_by, shard_ticket, shard_end_by, shard_end_at, ticket_end, shard_end, and_ends, ends_of, failure_of, reply_by, reply_of_ends, read_shard, restore_shards, restore_reply}
-use Rattle.esr_complete.proofs.Tickets.{or_none, or_assoc, same_op}
+use Rattle.esr_complete.proofs.Tickets.{or_none, or_assoc}
 
 -- ---- the first that is found
 
@@ -71,7 +72,7 @@ not_third true false c d p = refl
 not_third false b c d p = refl
 
 pub same_true : (y : ReadShard) → same_shard y y ≡ true
-same_true y = all_four (y.op == y.op) (y.index == y.index) (y.number == y.number) (y.uuid == y.uuid) (same_op y.op) (same_op y.index) (same_op y.number) (same_op y.uuid)
+same_true y = all_four (y.op == y.op) (y.index == y.index) (y.number == y.number) (y.uuid == y.uuid) (same_number y.op) (same_number y.index) (same_number y.number) (same_number y.uuid)
 
 -- shards of other ops, or other places
 pub other_op : (a b : ReadShard) → a.op ≢ b.op → same_shard a b ≡ false
@@ -142,6 +143,8 @@ pub record IsRestoredReply (answer : Option report.Reply) : Type 0 where
 
 pub restored_reply : (all : List Entry) (op uuid : ℕ) (indices : List IndexRef) → ((p : IndexRef × ℕ) → Has (places indices) p → IsRestored all (read_shard op uuid p)) → IsRestoredReply (restore_reply all op uuid indices)
 restored_reply all op uuid indices h =
-    let each : (y : ReadShard) → Has (restore_shards op uuid indices) y → IsRestored all y = λ (y : ReadShard) (m : Has (restore_shards op uuid indices) y). let (p, pm, is) = Has-mapped (read_shard op uuid) (places indices) y m in subst (IsRestored all) is (h p pm) in
+    let each : (y : ReadShard) → Has (restore_shards op uuid indices) y → IsRestored all y = λ (y : ReadShard) (m : Has (restore_shards op uuid indices) y).
+    let (p, pm, is) = Has-mapped (read_shard op uuid) (places indices) y m in
+    subst (IsRestored all) is (h p pm) in
     let a = all_restored all (restore_shards op uuid indices) each in
     record { files = _; bytes = _; is = ap (option_map reply_of_ends) a.is ∙ ap (λ failed. Some (reply_by failed a.ends)) a.unfailed }

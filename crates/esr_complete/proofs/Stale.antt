@@ -1,6 +1,9 @@
 -- A ticket that isn't stale by the history is of the present term, and so is that of a finalization that is out.
 use Rattle.std.proofs.Common.{◌≡◌, ◌≢◌, ◌⊎◌, ℕ, suc, Bool, true, false, true≢false, ◌||◌, ◌&&◌, if◌then◌else◌, List, [], ◌∷◌, ◌++◌, append-nil, append_assoc, Option, Some, None, refl, sym, ap, ◌∙◌, subst, inl, inr}
 use Rattle.std.specs.FinMap as fin
+use Rattle.std.proofs.lemmas.Bool.{or_right, or_parts}
+use Rattle.std.proofs.lemmas.Option.{none-some}
+use Rattle.std.proofs.Math.Bool.{or-false}
 use Rattle.esr_core.specs.Laws.NumberMaps.{was_in}
 use Rattle.esr_model.specs.Values.{RootData, ClusterRecord, Formats}
 use Rattle.esr_model.specs.Image.{Blobs, Image}
@@ -18,13 +21,14 @@ use Rattle.esr_core.specs.Laws.TakeAnswers.{take_gave}
 use Rattle.esr_core.specs.Laws.ChangeLaws.{same_unit, over_unit, settled_unit, change_of}
 use Rattle.esr_core.specs.Laws.Maps.{nothing, Tickets}
 use Rattle.esr_core.specs.Laws.StepFrames.{step_frame}
+use Rattle.esr_core.specs.Laws.Tests.{same_number}
 use Rattle.esr_desk.specs.Start.{Start, formats_of, world_of}
 use Rattle.esr_quiet.specs.Smooth.{AreCalm, IsSmooth}
 use Rattle.esr_quiet.specs.PrefixLaws.{quiet_at, legal_at, smooth_front}
 use Rattle.esr_quiet.specs.DeleteTells.{fails_at}
 use Rattle.esr_report.specs.Replies.{is_of_term, takes_of_term, begins_term, has_term, is_stale, final_step, final_out}
 use Rattle.esr_complete.specs.Lines.{entries_of}
-use Rattle.esr_complete.proofs.Tickets.{none_some, same_op, IsGiftless, final_on, final_was, final_gave}
+use Rattle.esr_complete.proofs.Tickets.{IsGiftless, final_on, final_was, final_gave}
 
 -- the ticket of who is of an older term
 abbrev pub IsStaleIn : World → ℕ → Type 0
@@ -32,21 +36,9 @@ IsStaleIn w who = (t : Ticket) → fin.get w.tickets who ≡ Some t → t.term �
 
 -- ---- what a longer history tells
 
-or_false : (a : Bool) → (a || false) ≡ a
-or_false true = refl
-or_false false = refl
-
-or_true : (a b : Bool) → b ≡ true → (a || b) ≡ true
-or_true true b e = refl
-or_true false b e = e
-
 or_assoc : (a b c : Bool) → (a || (b || c)) ≡ ((a || b) || c)
 or_assoc true b c = refl
 or_assoc false b c = refl
-
-neither : (a b : Bool) → (a || b) ≡ false → (a ≡ false) × (b ≡ false)
-neither true b e = absurd (true≢false e)
-neither false b e = (refl, e)
 
 -- a take gave the ticket a unit of its term
 abbrev pub has_take : List Entry → ℕ → Bool
@@ -54,17 +46,17 @@ has_take [] k = false
 has_take (e ∷ es) k = takes_of_term e.reply k || has_take es k
 
 take_append : (es : List Entry) (x : Entry) (k : ℕ) → has_take (es ++ x ∷ []) k ≡ (has_take es k || takes_of_term x.reply k)
-take_append [] x k = or_false (takes_of_term x.reply k)
+take_append [] x k = or-false (takes_of_term x.reply k)
 take_append (e ∷ es) x k = ap (λ (b : Bool). takes_of_term e.reply k || b) (take_append es x k) ∙ or_assoc (takes_of_term e.reply k) (has_take es k) (takes_of_term x.reply k)
 
 take_stays : (es : List Entry) (x : Entry) (k : ℕ) → has_take es k ≡ true → has_take (es ++ x ∷ []) k ≡ true
 take_stays es x k e = take_append es x k ∙ ap (λ (b : Bool). b || takes_of_term x.reply k) e
 
 take_here : (es : List Entry) (x : Entry) (k : ℕ) → takes_of_term x.reply k ≡ true → has_take (es ++ x ∷ []) k ≡ true
-take_here es x k e = take_append es x k ∙ or_true (has_take es k) (takes_of_term x.reply k) e
+take_here es x k e = take_append es x k ∙ or_right (has_take es k) (takes_of_term x.reply k) e
 
 term_append : (es : List Entry) (x : Entry) → has_term (es ++ x ∷ []) ≡ (has_term es || begins_term x.reply)
-term_append [] x = or_false (begins_term x.reply)
+term_append [] x = or-false (begins_term x.reply)
 term_append (e ∷ es) x = ap (λ (b : Bool). begins_term e.reply || b) (term_append es x) ∙ or_assoc (begins_term e.reply) (has_term es) (begins_term x.reply)
 
 -- one that was given is stale where it was, or where a term begins
@@ -123,7 +115,7 @@ module _ (tickets : Tickets) (term : ℕ) (es : List Entry) (h : TellsTerms tick
         present = λ k v e of fresh.
             let (t, there, unit) = came k v e in
             let was : IsTermWork t.work = work_was t v unit of in
-            unit.term ∙ h.present k t there was (neither (is_stale es k) (begins_term x.reply) (sym (stale_on es x k (h.given k t there was)) ∙ fresh)).0;
+            unit.term ∙ h.present k t there was (or_parts (is_stale es k) (begins_term x.reply) (sym (stale_on es x k (h.given k t there was)) ∙ fresh)).0;
         final = λ o k v out e. let (t, there, unit) = came k v e in unit.term ∙ h.final o k t (finals o k out) there;
       }
 
@@ -139,12 +131,12 @@ module _ (tickets : Tickets) (term : ℕ) (es : List Entry) (h : TellsTerms tick
   begins later begun none =
       record {
         given = λ k t there of. take_stays es x k (h.given k t there of);
-        present = λ k t there of fresh. absurd (true≢false (sym begun ∙ (neither (is_stale es k) (begins_term x.reply) (sym (stale_on es x k (h.given k t there of)) ∙ fresh)).1));
+        present = λ k t there of fresh. absurd (true≢false (sym begun ∙ (or_parts (is_stale es k) (begins_term x.reply) (sym (stale_on es x k (h.given k t there of)) ∙ fresh)).1));
         final = λ o k t out there. absurd (none o k out);
       }
 
 takes_here : (ticket op : ℕ) (unit : Given) → is_of_term unit ≡ true → takes_of_term (Gave ticket op unit) ticket ≡ true
-takes_here ticket op unit of = ap (λ (b : Bool). b && is_of_term unit) (same_op ticket) ∙ of
+takes_here ticket op unit of = ap (λ (b : Bool). b && is_of_term unit) (same_number ticket) ∙ of
 
 module _ (tickets : Tickets) (term next : ℕ) (es : List Entry) (h : TellsTerms tickets term es) (x : Entry) (op : ℕ) (unit : Given) (gives : x.reply ≡ Gave next op unit) where
   gave_final : (o k : ℕ) → final_out (es ++ x ∷ []) o ≡ Some k → (final_out es o ≡ Some k) ⊎ (next ≡ k)
@@ -163,7 +155,7 @@ module _ (tickets : Tickets) (term next : ℕ) (es : List Entry) (h : TellsTerms
         ];
         present = λ k v e of fresh. elim (was_in tickets next t k v e) [
           | inl is ↦ ap (λ (y : Ticket). y.term) (sym is.1) ∙ of_term
-          | inr is ↦ h.present k v is.1 of (neither (is_stale es k) (begins_term x.reply) (sym (stale_on es x k (h.given k v is.1 of)) ∙ fresh)).0
+          | inr is ↦ h.present k v is.1 of (or_parts (is_stale es k) (begins_term x.reply) (sym (stale_on es x k (h.given k v is.1 of)) ∙ fresh)).0
         ];
         final = λ o k v out e. elim (was_in tickets next t k v e) [
           | inl is ↦ ap (λ (y : Ticket). y.term) (sym is.1) ∙ of_term
@@ -248,7 +240,7 @@ module _ (f : Formats) (w : World) (es : List Entry) (h : TellsTermsIn w es) whe
   take who reply image given = still (record { who = who; step = TakeStep; reply = reply }) tt
 
   none_out : (who : ℕ) (term o k : ℕ) → final_out (es ++ record { who = who; step = ElectStep; reply = ElectedTerm term } ∷ []) o ≡ Some k → ⊥
-  none_out who term o k out = none_some k (sym (final_on o es (record { who = who; step = ElectStep; reply = ElectedTerm term })) ∙ out)
+  none_out who term o k out = none-some k (sym (final_on o es (record { who = who; step = ElectStep; reply = ElectedTerm term })) ∙ out)
 
   elect : (who : ℕ) (reply : Reply) (image : Option Image) → IsElectReply ElectStep reply → reply ≢ Refused DepotFault
       → TellsTermsIn (answered f w who ElectStep reply image) (es ++ record { who = who; step = ElectStep; reply = reply } ∷ [])

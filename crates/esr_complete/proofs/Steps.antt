@@ -1,8 +1,9 @@
 -- Each step where nothing fails keeps what the history tells.
-use Rattle.std.proofs.Common.{◌≡◌, ◌⊎◌, ℕ, suc, ◌+◌, ◌<◌, ◌≤◌, Bool, true, false, true≢false, ◌==◌, List, [], ◌∷◌, ◌++◌, Option, Some, None, map, refl, sym, ap, ◌∙◌, subst, inl, inr, arith}
+use Rattle.std.proofs.Common.{◌≡◌, ◌⊎◌, ℕ, suc, ◌+◌, ◌<◌, ◌≤◌, Bool, true, false, true≢false, ◌==◌, List, [], ◌∷◌, ◌++◌, Option, Some, None, map, refl, sym, ap, ◌∙◌, subst, inl, inr, arith, le_refl}
 use Rattle.std.proofs.lemmas.Bool.Decides.{eqb_tells}
 use Rattle.std.specs.FinMap as fin
 use Rattle.std.proofs.lemmas.Bool.{cases_Bool, cond-true, cond-false}
+use Rattle.std.proofs.lemmas.Option.{same_Some, none-some}
 use Rattle.esr_core.specs.Laws.NumberMaps.{was_in, same_in, left_in, stays_in, split_at}
 use Rattle.esr_model.specs.Names.{BlobName, Latest}
 use Rattle.esr_model.specs.Values.{Bytes, Has, SnapInfo, ShardResult, Formats}
@@ -25,11 +26,12 @@ use Rattle.esr_core.specs.Laws.Asides.{IsNoTest, aside_by}
 use Rattle.esr_core.specs.Laws.Moments.{moment, settled_plain, delete_settled_plain}
 use Rattle.esr_core.specs.Laws.Maps.{Deletes, entry_got}
 use Rattle.esr_model.specs.Lists.{Has-right}
+use Rattle.esr_core.specs.Laws.Tests.{same_number}
 use Rattle.esr_report.specs.Cleaned.{cleanup_by, is_cleanup_ticket}
 use Rattle.esr_report.specs.Replies as report
 use Rattle.esr_report.specs.Replies.{op_by, is_op, uuid_by, name_by, name_of_op, final_out, has_name, abort_of, aborts_at, is_over}
 use Rattle.esr_report.specs.Aborts.{accepted_by}
-use Rattle.esr_complete.proofs.Tickets.{none_some, op_stays, uuid_stays, cleanup_stays, cleanup_of, is_cleanup_op, cleans_stays, cleans_given, name_stays, name_given, IsGiftless, same_op}
+use Rattle.esr_complete.proofs.Tickets.{op_stays, uuid_stays, cleanup_stays, cleanup_of, is_cleanup_op, cleans_stays, cleans_given, name_stays, name_given, IsGiftless}
 use Rattle.esr_complete.proofs.OpEnds.{IsCalm, calm_unblocked, abort_names}
 use Rattle.esr_complete.proofs.Stale.{IsStaleIn}
 use Rattle.esr_complete.proofs.Following.{IsSaid, delete_of, IsOpenIn, IsDeleteIn, IsSettledIn, IsPrunedIn, IsCleanedIn, IsAbortedIn, HasName, IsNamedBy, IsNameless, IsToldOp, IsToldDelete, IsFinal, IsOutFinal, IsEndedOr, IsDeletedOr, Follows, FollowsIn, stands_at, stands_on, delete_on, aborted_on, named_on, nameless_on, op_on, delete_told_on, IsKin, kin_same, kin_on, out_same, out_on, IsOne, goes_on, told, gave, given_on, handed_on, follows_aside}
@@ -93,17 +95,14 @@ plain_one es next more x up plain said =
       leaves = λ step reply. absurd (subst (λ (s : Step). IsPlain HasEnded s) step (subst (λ (r : Reply). IsPlain r x.step) reply plain));
     }
 
-some_one : {A : Type 0} (a b : A) → Some a ≡ Some b → a ≡ b
-some_one a b e = cc
-
 none_is : {A : Type 0} (o : A) (found : Option A) → found ≡ None → found ≡ Some o → ⊥
-none_is o found none e = none_some o (sym none ∙ e)
+none_is o found none e = none-some o (sym none ∙ e)
 
 same_delete : (p q : Bool × ℕ) → Some p ≡ Some q → p ≡ q
 same_delete p q e = cc
 
 none_delete : (p : Bool × ℕ) (found : Option (Bool × ℕ)) → found ≡ None → found ≡ Some p → ⊥
-none_delete p found none e = none_some p (sym none ∙ e)
+none_delete p found none e = none-some p (sym none ∙ e)
 
 -- ---- what tickets are for
 
@@ -169,9 +168,9 @@ prune_settle e = cc
 
 -- the running delete is open
 running_there : (test : ℕ × Deletion → Bool) (deletes : List (ℕ × Deletion)) (d : ℕ) → first_delete test deletes ≡ Some d → (x : Deletion) × Has deletes (d, x)
-running_there test [] d e = absurd (none_some d e)
+running_there test [] d e = absurd (none-some d e)
 running_there test (p ∷ deletes) d e = elim (cases_Bool (test p)) [
-  | inl b ↦ let same : p.0 ≡ d = some_one p.0 d (sym (cond-true _ _ _ b) ∙ e) in (p.1, inl (λ i. (same i, p.1)))
+  | inl b ↦ let same : p.0 ≡ d = same_Some p.0 d (sym (cond-true _ _ _ b) ∙ e) in (p.1, inl (λ i. (same i, p.1)))
   | inr b ↦ let (x, m) = running_there test deletes d (sym (cond-false _ _ _ b) ∙ e) in (x, inr m)
 ]
 
@@ -187,9 +186,6 @@ apart_name es next cleans o d name nameless same = no_name name.0 (sym nameless.
   where
     no_name : (name : Bytes) → ◌≡◌ {A = Option Bytes} None (Some name) → ⊥
     no_name name e = cc
-
-same_up : (n : ℕ) → n ≤ n
-same_up n = omega arith
 
 one_up : (n : ℕ) → n ≤ suc n
 one_up n = omega arith
@@ -241,19 +237,21 @@ module _ (f : Formats) (size : ℕ) (w : World) (es : List Entry) (h : FollowsIn
   stays_to : (more : ℕ) → w.next_op ≤ more → (x : Entry) → IsPlain x.reply x.step → IsSaid x.step x.reply → Follows w.deposed w.ops w.deletes w.tickets w.next_ticket more (es ++ x ∷ [])
   stays_to more up x plain said =
       let one : IsOne es w.next_op more x = plain_one es w.next_op more x up plain said in
-      goes_on w.deposed w.ops w.ops w.deletes w.deletes w.tickets w.tickets w.next_ticket w.next_op more es x h one (ops_stay more x one.up one.no_name) (deletes_stay more x one) (kin_same w.tickets) (out_same w.tickets x) (λ o name was. inl was) (λ cleans d nameless was. inl was)
+      goes_on w.deposed w.ops w.ops w.deletes w.deletes w.tickets w.tickets w.next_ticket w.next_op more es x h one (ops_stay more x one.up one.no_name)
+      (deletes_stay more x one) (kin_same w.tickets) (out_same w.tickets x) (λ o name was. inl was) (λ cleans d nameless was. inl was)
       (λ o e. absurd (none_is o _ (plain_snapshot x.step x.reply plain) e)) (λ cleans d e. absurd (none_delete (cleans, d) _ (plain_delete x.step x.reply plain) e))
 
   stays : (x : Entry) → IsPlain x.reply x.step → IsSaid x.step x.reply → FollowsIn w (es ++ x ∷ [])
-  stays x plain said = stays_to w.next_op (same_up w.next_op) x plain said
+  stays x plain said = stays_to w.next_op (le_refl w.next_op) x plain said
 
   -- one ticket goes on
   ticket_on : (k : ℕ) (t v : Ticket) → fin.get w.tickets k ≡ Some t → ((j : ℕ) (u : Ticket) → fin.get (fin.insert w.tickets k v) j ≡ Some u → IsKin w.tickets j u) → v.op ≡ t.op → (x : Entry)
       → (IsOutFinal t → IsOutFinal v ⊎ ((is_over x.step x.reply ≡ true) × (k ≡ x.who)))
       → IsPlain x.reply x.step → IsSaid x.step x.reply → Follows w.deposed w.ops w.deletes (fin.insert w.tickets k v) w.next_ticket w.next_op (es ++ x ∷ [])
   ticket_on k t v there kin op x outs plain said =
-      let one : IsOne es w.next_op w.next_op x = plain_one es w.next_op w.next_op x (same_up w.next_op) plain said in
-      goes_on w.deposed w.ops w.ops w.deletes w.deletes w.tickets (fin.insert w.tickets k v) w.next_ticket w.next_op w.next_op es x h one (ops_stay w.next_op x one.up one.no_name) (deletes_stay w.next_op x one) kin (out_on w.tickets k t v x there op outs) (λ o name was. inl was)
+      let one : IsOne es w.next_op w.next_op x = plain_one es w.next_op w.next_op x (le_refl w.next_op) plain said in
+      goes_on w.deposed w.ops w.ops w.deletes w.deletes w.tickets (fin.insert w.tickets k v) w.next_ticket w.next_op w.next_op es x h one
+      (ops_stay w.next_op x one.up one.no_name) (deletes_stay w.next_op x one) kin (out_on w.tickets k t v x there op outs) (λ o name was. inl was)
       (λ cleans d nameless was. inl was) (λ o e. absurd (none_is o _ (plain_snapshot x.step x.reply plain) e)) (λ cleans d e. absurd (none_delete (cleans, d) _ (plain_delete x.step x.reply plain) e))
 
   changed : (k : ℕ) (t : Ticket) → fin.get w.tickets k ≡ Some t → (g : Ticket → Ticket) → (g t).op ≡ t.op → (g t).clean ≡ t.clean → (g t).work ≡ t.work → (x : Entry)
@@ -266,8 +264,11 @@ module _ (f : Formats) (size : ℕ) (w : World) (es : List Entry) (h : FollowsIn
 
   asks_next : (name : Bytes) (indices : List AskedIndex) (time : ℕ) → FollowsIn (asked w (Snapshot name indices time)) (es ++ told 0 (AskStep (Snapshot name indices time)) (Accepted w.next_op) ∷ [])
   asks_next name indices time =
-      goes_on w.deposed w.ops (fin.insert w.ops w.next_op op) w.deletes w.deletes w.tickets w.tickets w.next_ticket w.next_op (suc w.next_op) es x h one told_ops (deletes_stay (suc w.next_op) x one) (kin_same w.tickets) (out_same w.tickets x) (λ o named was. inl (stands_on w.ops w.next_op op o was))
-      (λ cleans d nameless was. inl was) (λ o e. subst (λ (n : ℕ). IsNamedBy (es ++ x ∷ []) n x × IsOpenIn (fin.insert w.ops w.next_op op) n) (some_one w.next_op o e) ((name, cond-true _ _ _ (same_op w.next_op), named), stands_at w.ops w.next_op op)) (λ cleans d e. absurd (none_delete (cleans, d) None refl e))
+      goes_on w.deposed w.ops (fin.insert w.ops w.next_op op) w.deletes w.deletes w.tickets w.tickets w.next_ticket w.next_op (suc w.next_op) es x h one told_ops
+      (deletes_stay (suc w.next_op) x one) (kin_same w.tickets) (out_same w.tickets x) (λ o named was. inl (stands_on w.ops w.next_op op o was))
+      (λ cleans d nameless was. inl was)
+      (λ o e. subst (λ (n : ℕ). IsNamedBy (es ++ x ∷ []) n x × IsOpenIn (fin.insert w.ops w.next_op op) n) (same_Some w.next_op o e) ((name, cond-true _ _ _ (same_number w.next_op), named), stands_at w.ops w.next_op op))
+      (λ cleans d e. absurd (none_delete (cleans, d) None refl e))
     where
       op : Op
       op = asked_op w name indices time
@@ -293,10 +294,10 @@ module _ (f : Formats) (size : ℕ) (w : World) (es : List Entry) (h : FollowsIn
           }
 
       named : name_of_op (es ++ told 0 (AskStep (Snapshot name indices time)) (Accepted w.next_op) ∷ []) w.next_op ≡ Some name
-      named = name_given es x w.next_op (h.coming w.next_op (same_up w.next_op)).0 ∙ cond-true _ _ _ (same_op w.next_op)
+      named = name_given es x w.next_op (h.coming w.next_op (le_refl w.next_op)).0 ∙ cond-true _ _ _ (same_number w.next_op)
 
       mine : IsToldOp (es ++ told 0 (AskStep (Snapshot name indices time)) (Accepted w.next_op) ∷ []) (suc w.next_op) w.next_op (asked_op w name indices time)
-      mine = record { unfailed = refl; aborted = λ by e. absurd (none_some by e); named = named; below = below_up w.next_op }
+      mine = record { unfailed = refl; aborted = λ by e. absurd (none-some by e); named = named; below = below_up w.next_op }
 
       told_ops : (o : ℕ) (q : Op) → fin.get (fin.insert w.ops w.next_op (asked_op w name indices time)) o ≡ Some q → IsToldOp (es ++ told 0 (AskStep (Snapshot name indices time)) (Accepted w.next_op) ∷ []) (suc w.next_op) o q
       told_ops o q e = elim (was_in w.ops w.next_op op o q e) [
@@ -313,8 +314,11 @@ module _ (f : Formats) (size : ℕ) (w : World) (es : List Entry) (h : FollowsIn
   clones_next : (source name : Bytes) (names : List Bytes) (time : ℕ) (taken : CloneOf)
       → FollowsIn (asked w (Clone source name names time (Some taken))) (es ++ told 0 (AskStep (Clone source name names time (Some taken))) (Accepted w.next_op) ∷ [])
   clones_next source name names time taken =
-      goes_on w.deposed w.ops (fin.insert w.ops w.next_op op) w.deletes w.deletes w.tickets w.tickets w.next_ticket w.next_op (suc w.next_op) es x h one told_ops (deletes_stay (suc w.next_op) x one) (kin_same w.tickets) (out_same w.tickets x) (λ o named was. inl (stands_on w.ops w.next_op op o was))
-      (λ cleans d nameless was. inl was) (λ o e. subst (λ (n : ℕ). IsNamedBy (es ++ x ∷ []) n x × IsOpenIn (fin.insert w.ops w.next_op op) n) (some_one w.next_op o e) ((name, cond-true _ _ _ (same_op w.next_op), named), stands_at w.ops w.next_op op)) (λ cleans d e. absurd (none_delete (cleans, d) None refl e))
+      goes_on w.deposed w.ops (fin.insert w.ops w.next_op op) w.deletes w.deletes w.tickets w.tickets w.next_ticket w.next_op (suc w.next_op) es x h one told_ops
+      (deletes_stay (suc w.next_op) x one) (kin_same w.tickets) (out_same w.tickets x) (λ o named was. inl (stands_on w.ops w.next_op op o was))
+      (λ cleans d nameless was. inl was)
+      (λ o e. subst (λ (n : ℕ). IsNamedBy (es ++ x ∷ []) n x × IsOpenIn (fin.insert w.ops w.next_op op) n) (same_Some w.next_op o e) ((name, cond-true _ _ _ (same_number w.next_op), named), stands_at w.ops w.next_op op))
+      (λ cleans d e. absurd (none_delete (cleans, d) None refl e))
     where
       op : Op
       op = cloned_op w name time taken
@@ -340,10 +344,10 @@ module _ (f : Formats) (size : ℕ) (w : World) (es : List Entry) (h : FollowsIn
           }
 
       named : name_of_op (es ++ told 0 (AskStep (Clone source name names time (Some taken))) (Accepted w.next_op) ∷ []) w.next_op ≡ Some name
-      named = name_given es x w.next_op (h.coming w.next_op (same_up w.next_op)).0 ∙ cond-true _ _ _ (same_op w.next_op)
+      named = name_given es x w.next_op (h.coming w.next_op (le_refl w.next_op)).0 ∙ cond-true _ _ _ (same_number w.next_op)
 
       mine : IsToldOp (es ++ told 0 (AskStep (Clone source name names time (Some taken))) (Accepted w.next_op) ∷ []) (suc w.next_op) w.next_op (cloned_op w name time taken)
-      mine = record { unfailed = refl; aborted = λ by e. absurd (none_some by e); named = named; below = below_up w.next_op }
+      mine = record { unfailed = refl; aborted = λ by e. absurd (none-some by e); named = named; below = below_up w.next_op }
 
       told_ops : (o : ℕ) (q : Op) → fin.get (fin.insert w.ops w.next_op (cloned_op w name time taken)) o ≡ Some q → IsToldOp (es ++ told 0 (AskStep (Clone source name names time (Some taken))) (Accepted w.next_op) ∷ []) (suc w.next_op) o q
       told_ops o q e = elim (was_in w.ops w.next_op op o q e) [
@@ -353,7 +357,8 @@ module _ (f : Formats) (size : ℕ) (w : World) (es : List Entry) (h : FollowsIn
 
   clones : (source name : Bytes) (names : List Bytes) (time o : ℕ) (taken : CloneOf) → o ≡ w.next_op
       → FollowsIn (asked w (Clone source name names time (Some taken))) (es ++ told 0 (AskStep (Clone source name names time (Some taken))) (Accepted o) ∷ [])
-  clones source name names time o taken is = subst (λ (n : ℕ). FollowsIn (asked w (Clone source name names time (Some taken))) (es ++ told 0 (AskStep (Clone source name names time (Some taken))) (Accepted n) ∷ [])) (sym is) (clones_next source name names time taken)
+  clones source name names time o taken is =
+      subst (λ (n : ℕ). FollowsIn (asked w (Clone source name names time (Some taken))) (es ++ told 0 (AskStep (Clone source name names time (Some taken))) (Accepted n) ∷ [])) (sym is) (clones_next source name names time taken)
 
   asks_clone : (stale : Type 0) (source name : Bytes) (names : List Bytes) (time : ℕ) (taken : Option CloneOf) (reply : Reply) (image : Option Image) → CloneAllows f w source name names time taken reply image
       → IsCalm stale reply (AskStep (Clone source name names time taken))
@@ -420,27 +425,28 @@ module _ (f : Formats) (size : ℕ) (w : World) (es : List Entry) (h : FollowsIn
         → Follows w.deposed (aborted_ops w (named_uuids w names) d) left w.tickets w.next_ticket more (es ++ told 0 (AskStep (DeleteSnapshots names)) (Accepted d) ∷ [])
     asked_on left told_deletes kept nameless stands =
         goes_on w.deposed w.ops (aborted_ops w (named_uuids w names) d) w.deletes left w.tickets w.tickets w.next_ticket w.next_op more es ask h (delete_one names d more up) asked_ops told_deletes (kin_same w.tickets) (out_same w.tickets ask)
-        (λ o name was. inl (aborts.is_op w (named_uuids w names) d o was.0 was.1)) (λ cleans e was_nameless was. inl (kept e was)) (λ o e. absurd (none_some o e))
+        (λ o name was. inl (aborts.is_op w (named_uuids w names) d o was.0 was.1)) (λ cleans e was_nameless was. inl (kept e was)) (λ o e. absurd (none-some o e))
         (λ cleans e is. subst (λ (p : Bool × ℕ). IsNameless (es ++ ask ∷ []) more p.0 p.1 × IsDeleteIn left p.1) (same_delete (false, d) (cleans, e) is) (nameless, stands))
 
   -- it joins an open delete
   joins : NoCleanup w → (names : List Bytes) (d : ℕ) → IsDeleteIn w.deletes d → FollowsIn w (es ++ told 0 (AskStep (DeleteSnapshots names)) (Accepted d) ∷ [])
   joins clear names d stands =
       let x : Entry = told 0 (AskStep (DeleteSnapshots names)) (Accepted d) in
-      let one : IsOne es w.next_op w.next_op x = delete_one names d w.next_op (same_up w.next_op) in
+      let one : IsOne es w.next_op w.next_op x = delete_one names d w.next_op (le_refl w.next_op) in
       let nameless : IsNameless (es ++ x ∷ []) w.next_op false d = subst (λ (b : Bool). IsNameless (es ++ x ∷ []) w.next_op b d) (clear d stands.0 stands.1) (deletes_stay w.next_op x one d stands.0 stands.1).nameless in
-      goes_on w.deposed w.ops w.ops w.deletes w.deletes w.tickets w.tickets w.next_ticket w.next_op w.next_op es x h one (ops_stay w.next_op x one.up one.no_name) (deletes_stay w.next_op x one) (kin_same w.tickets) (out_same w.tickets x) (λ o name was. inl was) (λ cleans e nameless was. inl was)
-      (λ o e. absurd (none_some o e)) (λ cleans e is. subst (λ (p : Bool × ℕ). IsNameless (es ++ x ∷ []) w.next_op p.0 p.1 × IsDeleteIn w.deletes p.1) (same_delete (false, d) (cleans, e) is) (nameless, stands))
+      goes_on w.deposed w.ops w.ops w.deletes w.deletes w.tickets w.tickets w.next_ticket w.next_op w.next_op es x h one (ops_stay w.next_op x one.up one.no_name)
+      (deletes_stay w.next_op x one) (kin_same w.tickets) (out_same w.tickets x) (λ o name was. inl was) (λ cleans e nameless was. inl was)
+      (λ o e. absurd (none-some o e)) (λ cleans e is. subst (λ (p : Bool × ℕ). IsNameless (es ++ x ∷ []) w.next_op p.0 p.1 × IsDeleteIn w.deletes p.1) (same_delete (false, d) (cleans, e) is) (nameless, stands))
 
   -- it is merged into one that waits
   merges : IsSafe f w es → NoCleanup w → (names : List Bytes) (d : ℕ) → Waits w d → FollowsIn (delete_merged w names d (fin.get w.deletes d)) (es ++ told 0 (AskStep (DeleteSnapshots names)) (Accepted d) ∷ [])
   merges safe clear names d a =
       let x : Entry = told 0 (AskStep (DeleteSnapshots names)) (Accepted d) in
-      let one : IsOne es w.next_op w.next_op x = delete_one names d w.next_op (same_up w.next_op) in
+      let one : IsOne es w.next_op w.next_op x = delete_one names d w.next_op (le_refl w.next_op) in
       let y : Deletion = record a.x { uuids = with_named w a.x.uuids names } in
       let old : IsToldDelete (es ++ x ∷ []) w.next_op d a.x = deletes_stay w.next_op x one d a.x a.there in
       subst (λ (found : Option Deletion). FollowsIn (delete_merged w names d found) (es ++ x ∷ [])) (sym a.there)
-      (asked_on safe names d w.next_op (same_up w.next_op) (fin.insert w.deletes d y)
+      (asked_on safe names d w.next_op (le_refl w.next_op) (fin.insert w.deletes d y)
       (λ e z is. elim (was_in w.deletes d y e z is) [
         | inl mine ↦ subst (λ (p : ℕ × Deletion). IsToldDelete (es ++ x ∷ []) w.next_op p.0 p.1) (λ i. (sym mine.0 i, mine.1 i)) (record { unfailed = old.unfailed; nameless = old.nameless })
         | inr other ↦ deletes_stay w.next_op x one e z other.1
@@ -454,7 +460,7 @@ module _ (f : Formats) (size : ℕ) (w : World) (es : List Entry) (h : FollowsIn
       let x : Entry = told 0 (AskStep (DeleteSnapshots names)) (Accepted w.next_op) in
       let one : IsOne es w.next_op (suc w.next_op) x = delete_one names w.next_op (suc w.next_op) (one_up w.next_op) in
       let y : Deletion = record { uuids = named_uuids w names; clean = false; failed = false } in
-      let coming = h.coming w.next_op (same_up w.next_op) in
+      let coming = h.coming w.next_op (le_refl w.next_op) in
       let nameless : IsNameless (es ++ x ∷ []) (suc w.next_op) false w.next_op = record { unnamed = name_given es x w.next_op coming.0; below = below_up w.next_op; kind = cleans_stays es x w.next_op refl ∙ coming.1 } in
       asked_on safe names w.next_op (suc w.next_op) (one_up w.next_op) (fin.insert w.deletes w.next_op y)
       (λ e z is. elim (was_in w.deletes w.next_op y e z is) [
@@ -482,8 +488,9 @@ module _ (f : Formats) (size : ℕ) (w : World) (es : List Entry) (h : FollowsIn
 
   opens_cleanup : FollowsIn (cleanup_opened w) (es ++ told 0 (AskStep Cleanup) (Accepted w.next_op) ∷ [])
   opens_cleanup =
-      goes_on w.deposed w.ops w.ops w.deletes (fin.insert w.deletes w.next_op y) w.tickets w.tickets w.next_ticket w.next_op (suc w.next_op) es x h one (ops_stay (suc w.next_op) x one.up one.no_name) told_deletes (kin_same w.tickets) (out_same w.tickets x)
-      (λ o name was. inl was) (λ cleans d nameless was. inl (delete_on w.deletes w.next_op y d was)) (λ o e. absurd (none_some o e))
+      goes_on w.deposed w.ops w.ops w.deletes (fin.insert w.deletes w.next_op y) w.tickets w.tickets w.next_ticket w.next_op
+      (suc w.next_op) es x h one (ops_stay (suc w.next_op) x one.up one.no_name) told_deletes (kin_same w.tickets) (out_same w.tickets x)
+      (λ o name was. inl was) (λ cleans d nameless was. inl (delete_on w.deletes w.next_op y d was)) (λ o e. absurd (none-some o e))
       (λ cleans d e. subst (λ (p : Bool × ℕ). IsNameless (es ++ x ∷ []) (suc w.next_op) p.0 p.1 × IsDeleteIn (fin.insert w.deletes w.next_op y) p.1) (same_delete (true, w.next_op) (cleans, d) e) (mine, (y, same_in w.deletes w.next_op y)))
     where
       x : Entry
@@ -510,7 +517,7 @@ module _ (f : Formats) (size : ℕ) (w : World) (es : List Entry) (h : FollowsIn
           }
 
       mine : IsNameless (es ++ told 0 (AskStep Cleanup) (Accepted w.next_op) ∷ []) (suc w.next_op) true w.next_op
-      mine = record { unnamed = name_given es x w.next_op (h.coming w.next_op (same_up w.next_op)).0; below = below_up w.next_op; kind = cleans_given es x w.next_op (same_op w.next_op) }
+      mine = record { unnamed = name_given es x w.next_op (h.coming w.next_op (le_refl w.next_op)).0; below = below_up w.next_op; kind = cleans_given es x w.next_op (same_number w.next_op) }
 
       told_deletes : (d : ℕ) (z : Deletion) → fin.get (fin.insert w.deletes w.next_op (record { uuids = []; clean = true; failed = false })) d ≡ Some z
           → IsToldDelete (es ++ told 0 (AskStep Cleanup) (Accepted w.next_op) ∷ []) (suc w.next_op) d z
@@ -544,8 +551,10 @@ module _ (f : Formats) (size : ℕ) (w : World) (es : List Entry) (h : FollowsIn
       let op : Op = record g.op { shards = shards } in
       subst (λ (y : Option Op). FollowsIn (taken_by f w o (GivenShard index number base) y) (es ++ x ∷ [])) (sym g.ready.op_there)
       (subst (λ (y : Option ShardWork). FollowsIn (taken_shard w o g.op base y) (es ++ x ∷ [])) (sym g.found)
-      (given_on w.deposed w.ops (fin.insert w.ops o op) w.deletes w.tickets w.next_ticket w.next_op es o (GivenShard index number base) h (shards_on w.next_op x (same_up w.next_op) (λ q any. (refl, refl)) o g.op g.ready.op_there shards) (stands_on w.ops o op)
-      (shard_ticket w o g.op g.s base) refl refl (λ e. absurd (shard_drop g.s.ref.id g.s.number e)) (λ info results made e. absurd (shard_final g.s.ref.id g.s.number info results made e)) (λ uuids plan e. absurd (shard_deleting g.s.ref.id g.s.number uuids plan e)) (λ final. absurd final)
+      (given_on w.deposed w.ops (fin.insert w.ops o op) w.deletes w.tickets w.next_ticket w.next_op es o (GivenShard index number base) h
+      (shards_on w.next_op x (le_refl w.next_op) (λ q any. (refl, refl)) o g.op g.ready.op_there shards) (stands_on w.ops o op)
+      (shard_ticket w o g.op g.s base) refl refl (λ e. absurd (shard_drop g.s.ref.id g.s.number e)) (λ info results made e. absurd (shard_final g.s.ref.id g.s.number info results made e))
+      (λ uuids plan e. absurd (shard_deleting g.s.ref.id g.s.number uuids plan e)) (λ final. absurd final)
       (λ info results made e. absurd (shard_final g.s.ref.id g.s.number info results made e))))
 
   -- a shard of a clone is given as another
@@ -557,13 +566,15 @@ module _ (f : Formats) (size : ℕ) (w : World) (es : List Entry) (h : FollowsIn
       let op : Op = record g.op { shards = shards } in
       subst (λ (y : Option Op). FollowsIn (taken_by f w o (GivenClone index number source base) y) (es ++ x ∷ [])) (sym g.ready.op_there)
       (subst (λ (y : Option ShardWork). FollowsIn (taken_shard w o g.op base y) (es ++ x ∷ [])) (sym g.found)
-      (given_on w.deposed w.ops (fin.insert w.ops o op) w.deletes w.tickets w.next_ticket w.next_op es o (GivenClone index number source base) h (shards_on w.next_op x (same_up w.next_op) (λ q any. (refl, refl)) o g.op g.ready.op_there shards) (stands_on w.ops o op)
-      (shard_ticket w o g.op g.s base) refl refl (λ e. absurd (shard_drop g.s.ref.id g.s.number e)) (λ info results made e. absurd (shard_final g.s.ref.id g.s.number info results made e)) (λ uuids plan e. absurd (shard_deleting g.s.ref.id g.s.number uuids plan e)) (λ final. absurd final)
+      (given_on w.deposed w.ops (fin.insert w.ops o op) w.deletes w.tickets w.next_ticket w.next_op es o (GivenClone index number source base) h
+      (shards_on w.next_op x (le_refl w.next_op) (λ q any. (refl, refl)) o g.op g.ready.op_there shards) (stands_on w.ops o op)
+      (shard_ticket w o g.op g.s base) refl refl (λ e. absurd (shard_drop g.s.ref.id g.s.number e)) (λ info results made e. absurd (shard_final g.s.ref.id g.s.number info results made e))
+      (λ uuids plan e. absurd (shard_deleting g.s.ref.id g.s.number uuids plan e)) (λ final. absurd final)
       (λ info results made e. absurd (shard_final g.s.ref.id g.s.number info results made e))))
 
   -- the ops stay as a ticket is given
   ops_given : (k o : ℕ) (unit : Given) (q : ℕ) (op : Op) → fin.get w.ops q ≡ Some op → IsToldOp (es ++ gave k o unit ∷ []) w.next_op q op
-  ops_given k o unit q op e = ops_stay w.next_op (gave k o unit) (same_up w.next_op) (λ p any. (refl, refl)) q op e
+  ops_given k o unit q op e = ops_stay w.next_op (gave k o unit) (le_refl w.next_op) (λ p any. (refl, refl)) q op e
 
   gives_final : (o : ℕ) (info : SnapInfo) (results : List ShardResult) → GivesFinalize f w o info results
       → FollowsIn (taken_by f w o (GivenFinalize info results) (fin.get w.ops o)) (es ++ gave w.next_ticket o (GivenFinalize info results) ∷ [])
@@ -571,7 +582,8 @@ module _ (f : Formats) (size : ℕ) (w : World) (es : List Entry) (h : FollowsIn
       let all : List Entry = es ++ gave w.next_ticket o (GivenFinalize info results) ∷ [] in
       subst (λ (x : Option Op). FollowsIn (taken_by f w o (GivenFinalize info results) x) all) (sym g.ready.op_there)
       (given_on w.deposed w.ops w.ops w.deletes w.tickets w.next_ticket w.next_op es o (GivenFinalize info results) h (ops_given w.next_ticket o (GivenFinalize info results)) (λ p was. was) (final_ticket f w o g.op results) refl refl
-      (λ e. absurd (final_drop (info_of g.op results) results (made_of f w.blobs g.op) e)) (λ other rs made e. (g.op.name, (h.ops o g.op g.ready.op_there).named)) (λ uuids plan e. absurd (final_deleting (info_of g.op results) results (made_of f w.blobs g.op) uuids plan e))
+      (λ e. absurd (final_drop (info_of g.op results) results (made_of f w.blobs g.op) e)) (λ other rs made e. (g.op.name, (h.ops o g.op g.ready.op_there).named))
+      (λ uuids plan e. absurd (final_deleting (info_of g.op results) results (made_of f w.blobs g.op) uuids plan e))
       (λ final. record { out = refl; unsettled = refl; final = tt })
       (λ other rs made e. ap (λ (y : SnapInfo). Some y.uuid) (g.info_is ∙ final_info (info_of g.op results) other results rs (made_of f w.blobs g.op) made e)))
 
@@ -592,7 +604,8 @@ module _ (f : Formats) (size : ℕ) (w : World) (es : List Entry) (h : FollowsIn
 
   gives_delete : (o : ℕ) (uuids : List ℕ) (x : Deletion) → ReadyDelete w o x → FollowsIn (taken_by f w o (GivenDelete uuids) (fin.get w.ops o)) (es ++ gave w.next_ticket o (GivenDelete uuids) ∷ [])
   gives_delete o uuids x ready =
-      given_on w.deposed w.ops w.ops w.deletes w.tickets w.next_ticket w.next_op es o (GivenDelete uuids) h (ops_given w.next_ticket o (GivenDelete uuids)) (λ p was. was) (plain_ticket w o (Deleting uuids None)) refl refl (λ e. absurd (deleting_drop uuids None e))
+      given_on w.deposed w.ops w.ops w.deletes w.tickets w.next_ticket w.next_op es o (GivenDelete uuids) h (ops_given w.next_ticket o (GivenDelete uuids))
+      (λ p was. was) (plain_ticket w o (Deleting uuids None)) refl refl (λ e. absurd (deleting_drop uuids None e))
       (λ info results made e. absurd (deleting_final uuids None info results made e)) (λ us plan e. subst (λ (b : Bool). IsNameless es w.next_op b o) ready.deletes (h.deletes o x ready.there).nameless) (λ final. absurd final)
       (λ info results made e. absurd (deleting_final uuids None info results made e))
 
@@ -636,20 +649,24 @@ module _ (f : Formats) (size : ℕ) (w : World) (es : List Entry) (h : FollowsIn
   does : (k : ℕ) (r : ShardResult) (image : Option Image) → Dones f size w k r image → FollowsIn (done_of w k r (fin.get w.tickets k)) (es ++ told k (DoneStep r) HasEnded ∷ [])
   does k r image d =
       let x : Entry = told k (DoneStep r) HasEnded in
-      let one : IsOne es w.next_op w.next_op x = plain_one es w.next_op w.next_op x (same_up w.next_op) tt tt in
+      let one : IsOne es w.next_op w.next_op x = plain_one es w.next_op w.next_op x (le_refl w.next_op) tt tt in
       let shards : List ShardWork = map (marked k (Done r)) d.op.shards in
       let op : Op = record d.op { shards = shards } in
       subst (λ (o : Option Ticket). FollowsIn (done_of w k r o) (es ++ x ∷ [])) (sym d.out.there)
       (subst (λ (o : Option Op). FollowsIn (done_by w k r d.t o) (es ++ x ∷ [])) (sym d.op_there)
-      (goes_on w.deposed w.ops (fin.insert w.ops d.t.op op) w.deletes w.deletes w.tickets (fin.insert w.tickets k (record d.t { out = false })) w.next_ticket w.next_op w.next_op es x h one (shards_on w.next_op x one.up one.no_name d.t.op d.op d.op_there shards) (deletes_stay w.next_op x one)
-      (kin_on w.tickets k d.t (record d.t { out = false }) d.out.there refl refl refl) (out_on w.tickets k d.t (record d.t { out = false }) x d.out.there refl (λ is. absurd (subst IsFinal d.is is.final))) (λ o name was. inl (stands_on w.ops d.t.op op o was)) (λ cleans e nameless was. inl was)
-      (λ o e. absurd (none_some o e)) (λ cleans e is. absurd (none_delete (cleans, e) None refl is))))
+      (goes_on w.deposed w.ops (fin.insert w.ops d.t.op op) w.deletes w.deletes w.tickets (fin.insert w.tickets k (record d.t { out = false })) w.next_ticket w.next_op w.next_op es x h one
+      (shards_on w.next_op x one.up one.no_name d.t.op d.op d.op_there shards) (deletes_stay w.next_op x one)
+      (kin_on w.tickets k d.t (record d.t { out = false }) d.out.there refl refl refl) (out_on w.tickets k d.t (record d.t { out = false }) x d.out.there refl (λ is. absurd (subst IsFinal d.is is.final)))
+      (λ o name was. inl (stands_on w.ops d.t.op op o was)) (λ cleans e nameless was. inl was)
+      (λ o e. absurd (none-some o e)) (λ cleans e is. absurd (none_delete (cleans, e) None refl is))))
 
   settles : (k : ℕ) → Settles f w k → FollowsIn (settled_of f w k (fin.get w.tickets k)) (es ++ told k SettleStep WasSettled ∷ [])
   settles k s =
       subst (λ (v : World). FollowsIn v (es ++ told k SettleStep WasSettled ∷ [])) (sym (settled_plain f w k s))
-      (goes_on w.deposed w.ops (fin.remove w.ops s.t.op) w.deletes (fin.remove w.deletes s.t.op) w.tickets (fin.insert w.tickets k (record s.t { settled = true })) w.next_ticket w.next_op w.next_op es x h one (ops_left w.next_op x one s.t.op) (deletes_less w.next_op x one s.t.op)
-      (kin_on w.tickets k s.t (record s.t { settled = true }) s.may.out.there refl refl refl) (out_on w.tickets k s.t (record s.t { settled = true }) x s.may.out.there refl (λ is. inr (refl, refl))) leaves (stays_nameless s.t.op (es ++ x ∷ []) named) (λ o e. absurd (none_some o e)) (λ cleans d e. absurd (none_delete (cleans, d) None refl e)))
+      (goes_on w.deposed w.ops (fin.remove w.ops s.t.op) w.deletes (fin.remove w.deletes s.t.op) w.tickets
+      (fin.insert w.tickets k (record s.t { settled = true })) w.next_ticket w.next_op w.next_op es x h one (ops_left w.next_op x one s.t.op) (deletes_less w.next_op x one s.t.op)
+      (kin_on w.tickets k s.t (record s.t { settled = true }) s.may.out.there refl refl refl) (out_on w.tickets k s.t (record s.t { settled = true }) x s.may.out.there refl (λ is. inr (refl, refl))) leaves
+      (stays_nameless s.t.op (es ++ x ∷ []) named) (λ o e. absurd (none-some o e)) (λ cleans d e. absurd (none_delete (cleans, d) None refl e)))
     where
       x : Entry
       x = told k SettleStep WasSettled
@@ -660,7 +677,7 @@ module _ (f : Formats) (size : ℕ) (w : World) (es : List Entry) (h : FollowsIn
       one : IsOne es w.next_op w.next_op (told k SettleStep WasSettled)
       one =
           record {
-            up = same_up w.next_op;
+            up = le_refl w.next_op;
             giftless = tt;
             no_ticket = λ j. (refl, refl, refl);
             no_name = λ o any. (refl, refl);
@@ -697,7 +714,7 @@ module _ (f : Formats) (size : ℕ) (w : World) (es : List Entry) (h : FollowsIn
     drop_one : (is_cleanup_ticket es k ≡ true → IsNameless es w.next_op true t.op) → IsOne es w.next_op w.next_op (told k DroppedStep HasEnded)
     drop_one nameless =
         record {
-          up = same_up w.next_op;
+          up = le_refl w.next_op;
           giftless = tt;
           no_ticket = λ j. (refl, refl, refl);
           no_name = λ o any. (refl, refl);
@@ -707,7 +724,7 @@ module _ (f : Formats) (size : ℕ) (w : World) (es : List Entry) (h : FollowsIn
           leaves = λ step reply. (
             t.op,
             op_stays es (last ∷ []) k t.op (h.op_of k t there),
-            λ cleans. nameless_on es last w.next_op w.next_op (same_up w.next_op) (λ o any. (refl, refl)) true t.op (nameless (sym (cleanup_stays es last k refl) ∙ cleans)),
+            λ cleans. nameless_on es last w.next_op w.next_op (le_refl w.next_op) (λ o any. (refl, refl)) true t.op (nameless (sym (cleanup_stays es last k refl) ∙ cleans)),
           );
         }
 
@@ -716,8 +733,10 @@ module _ (f : Formats) (size : ℕ) (w : World) (es : List Entry) (h : FollowsIn
         → FollowsIn (dropped_of w k (fin.get w.tickets k)) (es ++ told k DroppedStep HasEnded ∷ [])
     drop_on one no_final kept kept_deletes =
         subst (λ (o : Option Ticket). FollowsIn (dropped_of w k o) (es ++ told k DroppedStep HasEnded ∷ [])) (sym there)
-        (goes_on w.deposed w.ops (fin.remove w.ops t.op) w.deletes (fin.remove w.deletes t.op) w.tickets (fin.insert w.tickets k (record t { out = false })) w.next_ticket w.next_op w.next_op es last h one (ops_left w.next_op last one t.op) (deletes_less w.next_op last one t.op)
-        (kin_on w.tickets k t (record t { out = false }) there refl refl refl) (out_on w.tickets k t (record t { out = false }) last there refl (λ is. absurd (no_final is.final))) kept kept_deletes (λ o e. absurd (none_some o e)) (λ cleans e is. absurd (none_delete (cleans, e) None refl is)))
+        (goes_on w.deposed w.ops (fin.remove w.ops t.op) w.deletes (fin.remove w.deletes t.op) w.tickets
+        (fin.insert w.tickets k (record t { out = false })) w.next_ticket w.next_op w.next_op es last h one (ops_left w.next_op last one t.op) (deletes_less w.next_op last one t.op)
+        (kin_on w.tickets k t (record t { out = false }) there refl refl refl) (out_on w.tickets k t (record t { out = false }) last there refl (λ is. absurd (no_final is.final))) kept kept_deletes
+        (λ o e. absurd (none-some o e)) (λ cleans e is. absurd (none_delete (cleans, e) None refl is)))
 
     -- one that was aborted
     drops_op : t.work ≡ Drop → FollowsIn (dropped_of w k (fin.get w.tickets k)) (es ++ told k DroppedStep HasEnded ∷ [])
@@ -770,7 +789,8 @@ module _ (f : Formats) (size : ℕ) (w : World) (es : List Entry) (h : FollowsIn
 
   -- ---- steps of the ticket of a delete or cleanup
 
-  plans : (k : ℕ) (shards : List PrunedShard) (image : Option Image) (p : MayPlan f w k shards image) → FollowsIn (record (change w k (planned f shards w.next_id)) { next_id = w.next_id + kept_count shards }) (es ++ told k (PruneStep (PlanShards shards)) (DrawnFrom w.next_id) ∷ [])
+  plans : (k : ℕ) (shards : List PrunedShard) (image : Option Image) (p : MayPlan f w k shards image)
+      → FollowsIn (record (change w k (planned f shards w.next_id)) { next_id = w.next_id + kept_count shards }) (es ++ told k (PruneStep (PlanShards shards)) (DrawnFrom w.next_id) ∷ [])
   plans k shards image p =
       let x : Entry = told k (PruneStep (PlanShards shards)) (DrawnFrom w.next_id) in
       subst (λ (o : Option Ticket). FollowsIn (record (with_given w k (planned f shards w.next_id) o) { next_id = w.next_id + kept_count shards }) (es ++ x ∷ [])) (sym p.deleting.out.there)
@@ -800,9 +820,11 @@ module _ (f : Formats) (size : ℕ) (w : World) (es : List Entry) (h : FollowsIn
   settles_delete k s =
       subst (λ (v : World). FollowsIn v (es ++ told k (PruneStep SettlePruned) WasSettled ∷ [])) (sym (delete_settled_plain f w k s.n s.t s.s s.may))
       (elim (cases_Bool s.t.clean) [
-        | inl clean ↦ subst (λ (left : Deletes). Follows w.deposed (fin.remove w.ops s.t.op) left (fin.insert w.tickets k (record s.t { settled = true })) w.next_ticket w.next_op (es ++ x ∷ [])) (sym (cond-true s.t.clean w.deletes (fin.remove w.deletes s.t.op) clean))
+        | inl clean ↦ subst (λ (left : Deletes). Follows w.deposed (fin.remove w.ops s.t.op) left (fin.insert w.tickets k (record s.t { settled = true })) w.next_ticket w.next_op (es ++ x ∷ []))
+            (sym (cond-true s.t.clean w.deletes (fin.remove w.deletes s.t.op) clean))
             (leaves_with w.deletes (deletes_stay w.next_op x one) (λ cleans d none was. inl was))
-        | inr deletes ↦ subst (λ (left : Deletes). Follows w.deposed (fin.remove w.ops s.t.op) left (fin.insert w.tickets k (record s.t { settled = true })) w.next_ticket w.next_op (es ++ x ∷ [])) (sym (cond-false s.t.clean w.deletes (fin.remove w.deletes s.t.op) deletes))
+        | inr deletes ↦ subst (λ (left : Deletes). Follows w.deposed (fin.remove w.ops s.t.op) left (fin.insert w.tickets k (record s.t { settled = true })) w.next_ticket w.next_op (es ++ x ∷ []))
+            (sym (cond-false s.t.clean w.deletes (fin.remove w.deletes s.t.op) deletes))
             (leaves_with (fin.remove w.deletes s.t.op) (deletes_less w.next_op x one s.t.op) (leaves deletes))
       ])
     where
@@ -818,7 +840,7 @@ module _ (f : Formats) (size : ℕ) (w : World) (es : List Entry) (h : FollowsIn
       one : IsOne es w.next_op w.next_op (told k (PruneStep SettlePruned) WasSettled)
       one =
           record {
-            up = same_up w.next_op;
+            up = le_refl w.next_op;
             giftless = tt;
             no_ticket = λ j. (refl, refl, refl);
             no_name = λ o any. (refl, refl);
@@ -827,7 +849,7 @@ module _ (f : Formats) (size : ℕ) (w : World) (es : List Entry) (h : FollowsIn
             prunes = λ step reply. (
               s.t.op,
               op_stays es (x ∷ []) k s.t.op (h.op_of k s.t s.may.out.there),
-              subst (λ (b : Bool). IsNameless (es ++ x ∷ []) w.next_op b s.t.op) (sym cleans_is) (nameless_on es x w.next_op w.next_op (same_up w.next_op) (λ o any. (refl, refl)) s.t.clean s.t.op nameless),
+              subst (λ (b : Bool). IsNameless (es ++ x ∷ []) w.next_op b s.t.op) (sym cleans_is) (nameless_on es x w.next_op w.next_op (le_refl w.next_op) (λ o any. (refl, refl)) s.t.clean s.t.op nameless),
             );
             leaves = λ step. absurd (prune_drop step);
           }
@@ -837,8 +859,9 @@ module _ (f : Formats) (size : ℕ) (w : World) (es : List Entry) (h : FollowsIn
           → Follows w.deposed (fin.remove w.ops s.t.op) left (fin.insert w.tickets k (record s.t { settled = true })) w.next_ticket w.next_op (es ++ told k (PruneStep SettlePruned) WasSettled ∷ [])
       leaves_with left told_deletes kept =
           goes_on w.deposed w.ops (fin.remove w.ops s.t.op) w.deletes left w.tickets (fin.insert w.tickets k (record s.t { settled = true })) w.next_ticket w.next_op w.next_op es x h one (ops_left w.next_op x one s.t.op) told_deletes
-          (kin_on w.tickets k s.t (record s.t { settled = true }) s.may.out.there refl refl refl) (out_on w.tickets k s.t (record s.t { settled = true }) x s.may.out.there refl (λ is. absurd (subst IsFinal s.deleting.work is.final))) (stays_named s.t.clean s.t.op (es ++ x ∷ []) nameless) kept
-          (λ o e. absurd (none_some o e)) (λ cleans d e. absurd (none_delete (cleans, d) None refl e))
+          (kin_on w.tickets k s.t (record s.t { settled = true }) s.may.out.there refl refl refl) (out_on w.tickets k s.t (record s.t { settled = true }) x s.may.out.there refl (λ is. absurd (subst IsFinal s.deleting.work is.final)))
+          (stays_named s.t.clean s.t.op (es ++ x ∷ []) nameless) kept
+          (λ o e. absurd (none-some o e)) (λ cleans d e. absurd (none_delete (cleans, d) None refl e))
 
       it : s.t.clean ≡ false → IsPrunedIn (es ++ told k (PruneStep SettlePruned) WasSettled ∷ []) s.t.op
       it deletes =

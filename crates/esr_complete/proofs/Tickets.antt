@@ -1,15 +1,14 @@
 -- What a longer history tells of tickets, of the names of ops and of the finalizations that are out.
 use Rattle.std.proofs.Common.{◌≡◌, ℕ, Bool, true, false, true≢false, ◌||◌, List, [], ◌∷◌, ◌++◌, Option, Some, None, if◌then◌else◌, ◌==◌, ◌&&◌, ◌⊎◌, refl, sym, ap, ◌∙◌, inl, inr}
 use Rattle.std.proofs.lemmas.Bool.Decides.{eqb_tells}
-use Rattle.std.proofs.lemmas.Bool.{cond-true, cond-false}
+use Rattle.std.proofs.lemmas.Bool.{cond-true, cond-false, or_right}
+use Rattle.std.proofs.lemmas.Option.{none-some}
+use Rattle.std.proofs.Math.Bool.{or-false}
 use Rattle.esr_model.specs.Values.{Bytes}
 use Rattle.esr_core.specs.Entry.{Cleanup, Given, GivenFinalize, Step, AskStep, Reply, Accepted, Gave, ElectedTerm, Entry}
 use Rattle.esr_core.specs.After.{or_else}
 use Rattle.esr_report.specs.Cleaned.{is_cleanup, cleanup_by, is_cleanup_ticket}
 use Rattle.esr_report.specs.Replies.{op_by, op_of_ticket, is_op, uuid_by, uuid_of_ticket, name_by, name_of_op, is_over, final_given, final_kept, final_step, final_from, final_out}
-
-pub none_some : {A : Type 0} (x : A) → ◌≡◌ {A = Option A} None (Some x) → ⊥
-none_some x e = cc
 
 pub or_none : {A : Type 0} (a : Option A) → or_else a None ≡ a
 or_none None = refl
@@ -45,13 +44,9 @@ uuid_given es x k e = uuid_append es (x ∷ []) k ∙ ap (λ (a : Option ℕ). o
 
 -- ---- the tickets of cleanups
 
-or_false : (a : Bool) → (a || false) ≡ a
-or_false true = refl
-or_false false = refl
-
 -- one more entry tells what there is
 pub cleanup_given : (es : List Entry) (x : Entry) (k : ℕ) → is_cleanup_ticket es k ≡ false → is_cleanup_ticket (es ++ x ∷ []) k ≡ cleanup_by x.reply k
-cleanup_given [] x k e = or_false (cleanup_by x.reply k)
+cleanup_given [] x k e = or-false (cleanup_by x.reply k)
 cleanup_given (y ∷ es) x k e =
     let parts = neither (cleanup_by y.reply k) (is_cleanup_ticket es k) e in
     ap (λ (b : Bool). b || is_cleanup_ticket (es ++ x ∷ []) k) parts.0 ∙ cleanup_given es x k parts.1
@@ -62,7 +57,7 @@ cleanup_given (y ∷ es) x k e =
 
 -- unless it tells something what was told stays
 pub cleanup_stays : (es : List Entry) (x : Entry) (k : ℕ) → cleanup_by x.reply k ≡ false → is_cleanup_ticket (es ++ x ∷ []) k ≡ is_cleanup_ticket es k
-cleanup_stays [] x k e = or_false (cleanup_by x.reply k) ∙ e
+cleanup_stays [] x k e = or-false (cleanup_by x.reply k) ∙ e
 cleanup_stays (y ∷ es) x k e = ap (λ (b : Bool). cleanup_by y.reply k || b) (cleanup_stays es x k e)
 
 -- a take gives it to its own ticket alone
@@ -85,17 +80,13 @@ is_cleanup_op [] o = false
 is_cleanup_op (e ∷ es) o = is_op o (cleanup_of e.step e.reply) || is_cleanup_op es o
 
 pub cleans_stays : (es : List Entry) (x : Entry) (o : ℕ) → is_op o (cleanup_of x.step x.reply) ≡ false → is_cleanup_op (es ++ x ∷ []) o ≡ is_cleanup_op es o
-cleans_stays [] x o e = or_false (is_op o (cleanup_of x.step x.reply)) ∙ e
+cleans_stays [] x o e = or-false (is_op o (cleanup_of x.step x.reply)) ∙ e
 cleans_stays (y ∷ es) x o e = ap (λ (b : Bool). is_op o (cleanup_of y.step y.reply) || b) (cleans_stays es x o e)
-
-or_true : (a b : Bool) → b ≡ true → (a || b) ≡ true
-or_true true b e = refl
-or_true false b e = e
 
 -- where one more entry accepts it
 pub cleans_given : (es : List Entry) (x : Entry) (o : ℕ) → is_op o (cleanup_of x.step x.reply) ≡ true → is_cleanup_op (es ++ x ∷ []) o ≡ true
-cleans_given [] x o e = or_false (is_op o (cleanup_of x.step x.reply)) ∙ e
-cleans_given (y ∷ es) x o e = or_true (is_op o (cleanup_of y.step y.reply)) (is_cleanup_op (es ++ x ∷ []) o) (cleans_given es x o e)
+cleans_given [] x o e = or-false (is_op o (cleanup_of x.step x.reply)) ∙ e
+cleans_given (y ∷ es) x o e = or_right (is_op o (cleanup_of y.step y.reply)) (is_cleanup_op (es ++ x ∷ []) o) (cleans_given es x o e)
 
 -- ---- the names of ops
 
@@ -115,7 +106,7 @@ name_before es rest o e = first (name_of_op es o) refl
   where
     first : (a : Option Bytes) → name_of_op es o ≡ a → a ≡ None
     first None is = refl
-    first (Some name) is = absurd (none_some name (sym e ∙ name_stays es rest o name is))
+    first (Some name) is = absurd (none-some name (sym e ∙ name_stays es rest o name is))
 
 -- ---- the finalizations that are out
 
@@ -132,20 +123,20 @@ IsGiftless (Gave ticket op unit) = ⊥
 IsGiftless reply = Unit {0}
 
 kept_was : (k : Option ℕ) (who : ℕ) (over : Bool) (j : ℕ) → final_kept k who over ≡ Some j → (k ≡ Some j) × ((over && (j == who)) ≡ false)
-kept_was None who over j e = absurd (none_some j e)
+kept_was None who over j e = absurd (none-some j e)
 kept_was (Some k) who over j e = chosen (over && (k == who)) refl e
   where
     one : (a b : ℕ) → Some a ≡ Some b → a ≡ b
     one a b h = cc
 
     chosen : (b : Bool) → (over && (k == who)) ≡ b → (if b then None else Some k) ≡ Some j → (Some k ≡ Some j) × ((over && (j == who)) ≡ false)
-    chosen true is h = absurd (none_some j h)
+    chosen true is h = absurd (none-some j h)
     chosen false is h = (h, ap (λ (i : ℕ). over && (i == who)) (sym (one k j h)) ∙ is)
 
 -- one that is out after an entry which gives none was out, and the entry doesn't end it
 pub final_was : (op : ℕ) (k : Option ℕ) (e : Entry) (reply : Reply) (j : ℕ) → IsGiftless reply → final_step op k e reply ≡ Some j → (k ≡ Some j) × ((is_over e.step reply && (j == e.who)) ≡ false)
 final_was op k e (Gave ticket o unit) j none is = absurd none
-final_was op k e (ElectedTerm term) j none is = absurd (none_some j is)
+final_was op k e (ElectedTerm term) j none is = absurd (none-some j is)
 final_was op k e reply j none is = kept_was k e.who (is_over e.step reply) j is
 
 -- the unit is a finalization
@@ -163,6 +154,3 @@ final_gave op k o (GivenFinalize info results) ticket j is = elim (eqb_tells o o
     one : (a b : ℕ) → Some a ≡ Some b → a ≡ b
     one a b h = cc
 final_gave op k o unit ticket j is = inl is
-
-pub same_op : (o : ℕ) → (o == o) ≡ true
-same_op o = elim (eqb_tells o o) [ inl h ↦ h.0 | inr h ↦ absurd (h.1 refl) ]

@@ -329,7 +329,8 @@ module _ (script : List ScriptLine) where
   -- the lines after one are answered, by what comes after its entries, and by as many elections as they ask for
   abbrev GoesOn : List Entry → ℕ → List ScriptLine → List ScriptLine → Type 0
   GoesOn all moment before lines =
-      (later es : List Entry) → IsRest all es → elections_of later ≡ failovers_of lines → ((x : Entry) → Has later x → Fact script all x) → ((x : Entry) → Has es x → Fact script all x) → InTurn Idle (kinds_of lines) es → steps_asked es ≡ steps_of moment lines → AreAnsweredIn script before lines (replies_from all lines false later es)
+      (later es : List Entry) → IsRest all es → elections_of later ≡ failovers_of lines → ((x : Entry) → Has later x → Fact script all x) → ((x : Entry) → Has es x → Fact script all x) → InTurn Idle (kinds_of lines) es
+      → steps_asked es ≡ steps_of moment lines → AreAnsweredIn script before lines (replies_from all lines false later es)
 
   -- after these lines of the script, which with the next one are those
   module _ (before now : List ScriptLine) where
@@ -380,7 +381,8 @@ module _ (script : List ScriptLine) where
         ap (past_look true) n.first ∙ ap (λ (b : Bool). if b then from_line n.behind else n.look ∷ n.behind) answered ∙ n.next.is in
         let (snapshots, blobs, step, reply) = n.next.own in
         let answer : IsAnswerOf script before items.Check (line_answer items.Check all n.next.e.step n.next.e.reply) =
-        subst (λ (x : Step). IsAnswerOf script before items.Check (check_answer x n.next.e.reply)) (sym step) (subst (λ (r : entry.Reply). IsAnswerOf script before items.Check (check_answer (ReadStep (CheckedAll snapshots blobs)) r)) (sym reply) tt) in
+        subst (λ (x : Step). IsAnswerOf script before items.Check (check_answer x n.next.e.reply)) (sym step)
+        (subst (λ (r : entry.Reply). IsAnswerOf script before items.Check (check_answer (ReadStep (CheckedAll snapshots blobs)) r)) (sym reply) tt) in
         subst (λ (es : List Entry). IsFirst items.Check lines (and_more (line_reply items.Check all es) (replies_from all lines (false || (falls_before rest || falls_first es)) later))) (sym from)
         (subst (λ (b : Bool). IsFirst items.Check lines (and_more (line_reply items.Check all (n.next.e ∷ n.next.es)) (replies_from all lines (false || b) later)))
         (sym (neither (falls_before rest) (fails_swap n.next.e.step n.next.e.reply) (unfallen_before all rest facts) n.next.fact.unfallen))
@@ -431,7 +433,8 @@ module _ (script : List ScriptLine) where
         (λ x back at fact here is. fact.asked before (cleans x back at fact here) name (map index_of_line indices) moment is indices) on
     walk_item all later rest moment (items.Clone source name indices) lines short place cleans elections facts few turn e on =
         let step : Step = AskStep (Clone source name indices moment None) in
-        let n = next_line all (AsksClone source name indices moment) step (steps_of moment lines) (kinds_of lines) rest facts (ask_no_read (Clone source name indices moment None)) (λ x same. asked_clone source name indices moment x.step same) turn e in
+        let n =
+        next_line all (AsksClone source name indices moment) step (steps_of moment lines) (kinds_of lines) rest facts (ask_no_read (Clone source name indices moment None)) (λ x same. asked_clone source name indices moment x.step same) turn e in
         by_next all later rest moment (items.Clone source name indices) lines (AsksClone source name indices moment) (step ∷ steps_of moment lines) refl place few elections facts n
         (subst (λ (x : Step). IsAnswerOf script before (items.Clone source name indices) (answer_at all x n.e.reply)) (sym n.own.1)
         (n.fact.cloned before (cleans n.e n.es (rest_at all rest n.front n.e n.es place n.split) n.fact n.here_is) source name indices moment n.own.0 n.own.1 source indices)) on
@@ -453,7 +456,9 @@ module _ (script : List ScriptLine) where
         (λ x back at fact here is. fact.looked before is) on
     walk_item all later rest moment items.Check lines short place cleans elections facts few turn e on =
         let n = next_check all (steps_of moment lines) (kinds_of lines) rest facts turn e in
-        by_check all later rest lines (steps_of moment lines) (kinds_of lines) facts n (on later n.next.es (rest_then all n.next.e n.next.es (rest_at all n.behind n.next.front n.next.e n.next.es (rest_then all n.look n.behind (rest_at all rest n.front n.look n.behind place n.split)) n.next.split)) (none_more (elections_of later) (failovers_of lines) few) elections n.next.facts n.next.turn n.next.more_is)
+        by_check all later rest lines (steps_of moment lines) (kinds_of lines) facts n
+        (on later n.next.es (rest_then all n.next.e n.next.es (rest_at all n.behind n.next.front n.next.e n.next.es (rest_then all n.look n.behind (rest_at all rest n.front n.look n.behind place n.split)) n.next.split))
+        (none_more (elections_of later) (failovers_of lines) few) elections n.next.facts n.next.turn n.next.more_is)
     walk_item all later rest moment items.Verify lines short place cleans elections facts few turn e on =
         let n = next_verified all (steps_of moment lines) (kinds_of lines) rest facts turn e in
         by_next all later rest moment items.Verify lines IsVerified (steps_of moment lines) refl place few elections facts n

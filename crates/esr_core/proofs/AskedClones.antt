@@ -60,7 +60,7 @@ once_chosen all (name ∷ names) all_once once = once_named all (name ∷ names)
 
 -- ---- its shards
 
-abbrev place_of : ShardWork → IndexRef × ℕ
+abbrev pub place_of : ShardWork → IndexRef × ℕ
 place_of s = (s.ref, s.number)
 
 pub copied_places : (ps : List (IndexRef × ℕ)) → map place_of (map copied_shard ps) ≡ ps

@@ -2,7 +2,7 @@
 use Rattle.std.proofs.Common.{◌≡◌, ℕ, true, false, not, ◌==◌, List, [], ◌∷◌, Option, Some, None, refl, sym, ap, ◌∙◌, subst, inl, inr}
 use Rattle.std.specs.Prelude.{option_map}
 use Rattle.std.specs.FinMap as fin
-use Rattle.std.proofs.lemmas.Bool.{eq-eqb, and_from, cond-true, cond-false, cases_Bool}
+use Rattle.std.proofs.lemmas.Bool.{eq-eqb, and_from, cond-true, cond-false, cases_Bool, and_right}
 use Rattle.std.proofs.lemmas.Option.{none-some}
 use Rattle.esr_model.specs.Values.{Bytes, Has, RootSnap, Formats}
 use Rattle.esr_model.specs.Shelf.{names_uuid}
@@ -15,7 +15,7 @@ use Rattle.esr_model.specs.Lists.{Has-left, Has-right}
 use Rattle.esr_core.specs.Laws.Maps.{got_entry}
 use Rattle.esr_core.specs.Laws.Tests.{same_one, same_true, clash, any_of}
 use Rattle.esr_core.specs.Laws.DeleteRoots.{has_names, names_has}
-use Rattle.esr_core.specs.Laws.DeleteAsks.{second_not, named_is, more_named, Waits, waits, now_at as law-now_at, get_at as law-get_at, spared as law-spared, aborts}
+use Rattle.esr_core.specs.Laws.DeleteAsks.{named_is, more_named, Waits, waits, now_at as law-now_at, get_at as law-get_at, spared as law-spared, aborts}
 
 -- ---- what a name names
 
@@ -96,7 +96,7 @@ module _ (w : World) (uuids : List ℕ) (by : ℕ) where
     where
       go : (found : Option Op) → option_map (now_at o) found ≡ found
       go None = refl
-      go (Some op) = ap Some (spared o op (second_not (names_uuid uuids op.uuid) _ (second_not (is_unaborted op.aborted) _ (ap not e))))
+      go (Some op) = ap Some (spared o op (and_right (names_uuid uuids op.uuid) _ (and_right (is_unaborted op.aborted) _ (ap not e))))
 
   -- not one whose swap is out
   pub unfinal : (k : ℕ) (t : Ticket) → fin.get w.tickets k ≡ Some t → t.out ≡ true → t.settled ≡ false → t.term ≡ w.term → IsMaster t.work → fin.get (aborted_ops w uuids by) t.op ≡ fin.get w.ops t.op

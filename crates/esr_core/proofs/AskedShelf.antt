@@ -64,7 +64,8 @@ pub record AcceptedAs (f : Formats) (w : World) (m : Moment) (name place : Bytes
   pub alive : w.deposed ≡ false
   pub accepts : AcceptsRestore f w name o uuid indices m.image
 
-accepted_by : (f : Formats) (w : World) (name : Bytes) (reply : Reply) (image : Option Image) (o uuid : ℕ) (indices : List IndexRef) → RestoreAllows f w name reply image → reply ≡ AcceptedRestore o uuid indices → AcceptsRestore f w name o uuid indices image
+accepted_by : (f : Formats) (w : World) (name : Bytes) (reply : Reply) (image : Option Image) (o uuid : ℕ) (indices : List IndexRef) → RestoreAllows f w name reply image → reply ≡ AcceptedRestore o uuid indices
+    → AcceptsRestore f w name o uuid indices image
 accepted_by f w name reply image o uuid indices (OpeningRestore p u refs im acc) e = same_reply e
   where
     same_reply : AcceptedRestore p u refs ≡ AcceptedRestore o uuid indices → AcceptsRestore f w name o uuid indices im
@@ -75,20 +76,23 @@ accepted_by f w name reply image o uuid indices (allowed.NotListed im none) e = 
 accepted_by f w name reply image o uuid indices (allowed.NamedByDelete u d im listed named) e = absurd (cc)
 accepted_by f w name reply image o uuid indices (allowed.FullOfRestores u im listed spared full) e = absurd (cc)
 
-allows_by : (f : Formats) (size : ℕ) (w : World) (who : ℕ) (name place : Bytes) (reply : Reply) (image : Option Image) → Allows f size w who (AskStep (Restore name place)) reply image → (o uuid : ℕ) (indices : List IndexRef) → reply ≡ AcceptedRestore o uuid indices → AcceptsRestore f w name o uuid indices image
+allows_by : (f : Formats) (size : ℕ) (w : World) (who : ℕ) (name place : Bytes) (reply : Reply) (image : Option Image) → Allows f size w who (AskStep (Restore name place)) reply image → (o uuid : ℕ) (indices : List IndexRef)
+    → reply ≡ AcceptedRestore o uuid indices → AcceptsRestore f w name o uuid indices image
 allows_by f size w who name place reply image (allowed.AskingRestore n p rep im h same) o uuid indices e = accepted_by f w n rep im o uuid indices h e
 allows_by f size w who name place reply image (allowed.Cleaning command d x im recorded there clean same) o uuid indices e = absurd (true≢false (sym recorded))
 
 refused_accepted : (refusal : Refusal) (o uuid : ℕ) (indices : List IndexRef) → Refused refusal ≡ AcceptedRestore o uuid indices → ⊥
 refused_accepted refusal o uuid indices e = cc
 
-pub accepted_as : (f : Formats) (size : ℕ) (w : World) (m : Moment) (name place : Bytes) (o uuid : ℕ) (indices : List IndexRef) → Allowed f size w m → m.entry.step ≡ AskStep (Restore name place) → m.entry.reply ≡ AcceptedRestore o uuid indices → AcceptedAs f w m name place o uuid indices
+pub accepted_as : (f : Formats) (size : ℕ) (w : World) (m : Moment) (name place : Bytes) (o uuid : ℕ) (indices : List IndexRef) → Allowed f size w m → m.entry.step ≡ AskStep (Restore name place)
+    → m.entry.reply ≡ AcceptedRestore o uuid indices → AcceptedAs f w m name place o uuid indices
 accepted_as f size w m name place o uuid indices a step reply = elim a.answered [
   | inl alive ↦ record { alive = alive.0; accepts = allows_by f size w m.entry.who name place m.entry.reply m.image (subst (λ s. Allows f size w m.entry.who s m.entry.reply m.image) step alive.1) o uuid indices reply }
   | inr dead ↦ absurd (refused_accepted dead.refusal o uuid indices (sym dead.refused ∙ reply))
 ]
 
-module _ (f : Formats) (w : World) (shelf : List Shelved) (l : Law f w shelf) (m : Moment) (name place : Bytes) (o uuid : ℕ) (indices : List IndexRef) (image : Image) (told : m.image ≡ Some image) (a : AcceptedAs f w m name place o uuid indices) where
+module _ (f : Formats) (w : World) (shelf : List Shelved) (l : Law f w shelf) (m : Moment) (name place : Bytes) (o uuid : ℕ)
+    (indices : List IndexRef) (image : Image) (told : m.image ≡ Some image) (a : AcceptedAs f w m name place o uuid indices) where
   listed : Lists w.root uuid
   listed = (a.accepts.listed.0, a.accepts.listed.1, a.accepts.listed.3)
 
@@ -140,7 +144,8 @@ told_front (m ∷ log) rest h = (h.0, told_front log rest h.1)
 
 -- ---- what was asked and is read later
 
-module _ (f : Formats) (size : ℕ) (m : Moment) (name place : Bytes) (o uuid : ℕ) (indices : List IndexRef) (step : m.entry.step ≡ AskStep (Restore name place)) (reply : m.entry.reply ≡ AcceptedRestore o uuid indices) (k : ℕ) (q : Reader) (of : q.op ≡ o) (files bytes : ℕ) (by : RestoredBy f q files bytes) where
+module _ (f : Formats) (size : ℕ) (m : Moment) (name place : Bytes) (o uuid : ℕ) (indices : List IndexRef) (step : m.entry.step ≡ AskStep (Restore name place))
+    (reply : m.entry.reply ≡ AcceptedRestore o uuid indices) (k : ℕ) (q : Reader) (of : q.op ≡ o) (files bytes : ℕ) (by : RestoredBy f q files bytes) where
   -- the ask counts for nothing
   no_commands : (w : World) (safe : ℕ) → commands_at f safe w m.entry.who m.entry.step m.entry.reply ≡ []
   no_commands w safe = ap (commands_at f safe w m.entry.who m.entry.step) reply
@@ -151,7 +156,8 @@ module _ (f : Formats) (size : ℕ) (m : Moment) (name place : Bytes) (o uuid : 
   next_at : (w : World) → (after f w m).next_op ≡ suc w.next_op
   next_at w = ap (λ (s : Step). (answered f w m.entry.who s m.entry.reply m.image).next_op) step ∙ ap (λ (r : Reply). (answered f w m.entry.who (AskStep (Restore name place)) r m.image).next_op) reply
 
-  from_ask : (w : World) (shelf : List Shelved) (rest : List Moment) → Law f w shelf → ReadLaw f w → IsLegal f size w (m ∷ rest) → AreTold (m ∷ rest) → IsReading (world_from f (after f w m) rest) k q → IsOnShelf f shelf q files bytes by
+  from_ask : (w : World) (shelf : List Shelved) (rest : List Moment) → Law f w shelf → ReadLaw f w → IsLegal f size w (m ∷ rest) → AreTold (m ∷ rest) → IsReading (world_from f (after f w m) rest) k q
+      → IsOnShelf f shelf q files bytes by
   from_ask w shelf rest l r legal told reading =
       let a : AcceptedAs f w m name place o uuid indices = accepted_as f size w m name place o uuid indices legal.0 step reply in
       let asked : IsShelvedAs shelf name uuid indices = asked_shelf f w shelf l m name place o uuid indices told.0.0 told.0.1 a in
@@ -190,8 +196,8 @@ module _ (f : Formats) (size : ℕ) (m : Moment) (name place : Bytes) (o uuid : 
         bytes_is = h.bytes_is;
       }
 
-  pub from_start : (before rest : List Moment) (w : World) (shelf : List Shelved) → Law f w shelf → ReadLaw f w → IsLegal f size w (before ++ m ∷ rest) → AreTold (before ++ m ∷ rest) → IsReading (world_from f w (before ++ m ∷ rest)) k q
-      → IsOnShelf f (shelf_after shelf (committed f (world_from f w before).safe w before)) q files bytes by
+  pub from_start : (before rest : List Moment) (w : World) (shelf : List Shelved) → Law f w shelf → ReadLaw f w → IsLegal f size w (before ++ m ∷ rest) → AreTold (before ++ m ∷ rest)
+      → IsReading (world_from f w (before ++ m ∷ rest)) k q → IsOnShelf f (shelf_after shelf (committed f (world_from f w before).safe w before)) q files bytes by
   from_start [] rest w shelf l r legal told reading = from_ask w shelf rest l r legal told reading
   from_start (b ∷ before) rest w shelf l r legal told reading =
       let s : Stepped f w shelf b (after f w b) = step_law f size w shelf l b told.0.0 told.0.1 legal.0 in
@@ -200,4 +206,5 @@ module _ (f : Formats) (size : ℕ) (m : Moment) (name place : Bytes) (o uuid : 
       let mine : commands_at f ask.safe w b.entry.who b.entry.step b.entry.reply ≡ s.commands = s.counted ask.safe lasting.rises lasting.alone in
       let h : IsOnShelf f (shelf_after (shelf_after shelf s.commands) (committed f ask.safe (after f w b) before)) q files bytes by =
       from_start before rest (after f w b) (shelf_after shelf s.commands) s.law (read_step_law f size w shelf l r b (after f w b) s) legal.1 told.1 reading in
-      subst (λ (x : List Shelved). IsOnShelf f x q files bytes by) (sym (shelf_after-append shelf s.commands (committed f ask.safe (after f w b) before)) ∙ ap (λ cs. shelf_after shelf (cs ++ committed f ask.safe (after f w b) before)) (sym mine)) h
+      subst (λ (x : List Shelved). IsOnShelf f x q files bytes by)
+      (sym (shelf_after-append shelf s.commands (committed f ask.safe (after f w b) before)) ∙ ap (λ cs. shelf_after shelf (cs ++ committed f ask.safe (after f w b) before)) (sym mine)) h

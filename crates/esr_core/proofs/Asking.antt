@@ -39,7 +39,8 @@ module _ (f : Formats) (has : BlobName → Bytes → Type 0) (root : RootData) (
   base_from i n None h = λ g live. h g (live_from i n g live)
   base_from i n (Some b) h = (λ g live. h.0 g (live_from i n g live), carries_from i n b h.1)
 
-module _ (f : Formats) (w : World) (shelf : List Shelved) (l : Lawful f w shelf) (op : Op) (new : World) (d : AskCreate f w op new) (apart_from : IsApart w op) (one_id : (r q : IndexRef) → Has op.indices r → Has op.indices q → r.id ≡ q.id → r ≡ q)
+module _ (f : Formats) (w : World) (shelf : List Shelved) (l : Lawful f w shelf) (op : Op) (new : World) (d : AskCreate f w op new)
+    (apart_from : IsApart w op) (one_id : (r q : IndexRef) → Has op.indices r → Has op.indices q → r.id ≡ q.id → r ≡ q)
     (ids : IdsIn f w) where
   abbrev ops : Ops
   ops = fin.insert w.ops w.next_op op
@@ -272,7 +273,8 @@ delete_asked_lawful f w shelf l uuids new d = subst (λ x. Lawful f x shelf) (sy
     carried = carried_aborts f w shelf l d.ops w.next_op d.aborts;
     fresh = l.sound.fresh;
   };
-  queue = queue_add_delete w.term w.root d.ops w.deletes w.completed w.next_op w.tickets (queue_aborts f w shelf l d.ops w.next_op d.aborts) (record { uuids = uuids; clean = false; failed = false }) (λ e y h. (d.no_cleanup e y h, refl)) (λ e. absurd (true≢false (sym e))) (λ e. absurd (true≢false (sym e)))
+  queue = queue_add_delete w.term w.root d.ops w.deletes w.completed w.next_op w.tickets (queue_aborts f w shelf l d.ops w.next_op d.aborts)
+      (record { uuids = uuids; clean = false; failed = false }) (λ e y h. (d.no_cleanup e y h, refl)) (λ e. absurd (true≢false (sym e))) (λ e. absurd (true≢false (sym e)))
       (λ o op u e is. let (old, there, how) = d.aborts.was o op e in d.spares o old u there (source_of w.next_op old op how ∙ is));
 })
 
@@ -291,5 +293,6 @@ merge_lawful f w shelf l uuids n new d = subst (λ x. Lawful f x shelf) (sym d.n
 pub cleanup_asked_lawful : (f : Formats) (w : World) (shelf : List Shelved) → Lawful f w shelf → (new : World) → AskCleanup w new → Lawful f new shelf
 cleanup_asked_lawful f w shelf l new d = subst (λ x. Lawful f x shelf) (sym d.new_is) (record {
   sound = record { rooted = record { kept = l.sound.rooted.kept; doomed_begun = l.sound.rooted.doomed_begun; tickets = l.sound.rooted.tickets; single = l.sound.rooted.single }; carried = l.sound.carried; fresh = l.sound.fresh };
-  queue = queue_add_delete w.term w.root w.ops w.deletes w.completed w.next_op w.tickets l.queue (record { uuids = []; clean = true; failed = false }) (λ e y h. absurd (d.no_delete e y h)) (λ e. d.no_op) (λ e. d.no_ticket) (λ o op u e is. absurd (d.no_op o op e));
+  queue = queue_add_delete w.term w.root w.ops w.deletes w.completed w.next_op w.tickets l.queue (record { uuids = []; clean = true; failed = false })
+      (λ e y h. absurd (d.no_delete e y h)) (λ e. d.no_op) (λ e. d.no_ticket) (λ o op u e is. absurd (d.no_op o op e));
 })

@@ -56,7 +56,8 @@ ids_up f c d le blobs doomed root ops tickets h =
 
 module _ (f : Formats) (c : ℕ) (blobs : Blobs) (doomed : List BlobName) (root : RootData) (ops : Ops) (tickets : Tickets) (h : Ids f c blobs doomed root ops tickets) where
   -- a ticket
-  pub ids_put : (k : ℕ) (v : Ticket) → TicketIds f c v → ((name : BlobName) → Has doomed name → v.out ≡ true → IsShard v.work → (id : ℕ) → Drew v id → OfId name id → ⊥) → Ids f c blobs doomed root ops (fin.insert tickets k v)
+  pub ids_put : (k : ℕ) (v : Ticket) → TicketIds f c v → ((name : BlobName) → Has doomed name → v.out ≡ true → IsShard v.work → (id : ℕ) → Drew v id → OfId name id → ⊥)
+      → Ids f c blobs doomed root ops (fin.insert tickets k v)
   ids_put k v mine aside =
       record {
         blobs = h.blobs;
@@ -74,7 +75,8 @@ module _ (f : Formats) (c : ℕ) (blobs : Blobs) (doomed : List BlobName) (root 
       }
 
   -- a ticket given anew with the ids that it drew
-  pub ids_again : (k : ℕ) (t v : Ticket) → fin.get tickets k ≡ Some t → TicketIds f c v → v.first ≡ t.first → v.drawn ≡ t.drawn → (v.out ≡ true → t.out ≡ true) → (IsShard v.work → IsShard t.work) → Ids f c blobs doomed root ops (fin.insert tickets k v)
+  pub ids_again : (k : ℕ) (t v : Ticket) → fin.get tickets k ≡ Some t → TicketIds f c v → v.first ≡ t.first → v.drawn ≡ t.drawn → (v.out ≡ true → t.out ≡ true) → (IsShard v.work → IsShard t.work)
+      → Ids f c blobs doomed root ops (fin.insert tickets k v)
   ids_again k t v there mine first drawn out shard =
       ids_put k v mine (λ name m o s id drew of. (h.doomed name m).ids k t there (out o) (shard s) id (record { from = subst (λ n. n ≤ id) first drew.from; below = subst (λ n. id < n) (λ i. first i + drawn i) drew.below }) of)
 

@@ -86,7 +86,8 @@ kept_aside P w new a h = subst P (sym a.new_is) h
 -- the order of a world reads none of these, and the next numbers may rise
 pub tracked_besides : (w : World) → Tracked w → (blobs : Blobs) (safe pending : ℕ) (completed : List ℕ) (doomed : List BlobName) (deposed : Bool)
     (restores : FinMap nat_cmp Restoring) (readers : FinMap nat_cmp Reader) (caller : Caller) (entries : List Entry) (next_op next_ticket : ℕ) → w.next_op ≤ next_op → w.next_ticket ≤ next_ticket
-    → Tracked (record w { blobs = blobs; safe = safe; pending = pending; completed = completed; doomed = doomed; deposed = deposed; restores = restores; readers = readers; caller = caller; entries = entries; next_op = next_op; next_ticket = next_ticket })
+    → Tracked
+    (record w { blobs = blobs; safe = safe; pending = pending; completed = completed; doomed = doomed; deposed = deposed; restores = restores; readers = readers; caller = caller; entries = entries; next_op = next_op; next_ticket = next_ticket })
 tracked_besides w l blobs safe pending completed doomed deposed restores readers caller entries next_op next_ticket ops tickets =
     record {
       numbers = λ o op e. let b : o < w.next_op = l.numbers o op e in omega (arith, b, ops);

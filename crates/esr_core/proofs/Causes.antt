@@ -1,5 +1,5 @@
 -- Each refusal has its cause, and what was given or settled was so by its step.
-use Rattle.std.proofs.Common.{◌≡◌, ◌⊎◌, ℕ, suc, ◌+◌, ◌≤◌, List, Option, None, refl, sym, subst, inl, inr, arith, ◌∙◌}
+use Rattle.std.proofs.Common.{◌≡◌, ◌⊎◌, ℕ, suc, ◌+◌, ◌≤◌, List, Option, None, refl, sym, subst, inl, inr, arith, ◌∙◌, le_refl}
 use Rattle.esr_core.proofs.Refusing.{same_refusal}
 use Rattle.esr_model.specs.Values.{Bytes, Formats, IndexRef}
 use Rattle.esr_model.specs.Kept.{first_id}
@@ -11,7 +11,7 @@ use Rattle.esr_core.specs.After.{new_names}
 use Rattle.esr_core.specs.Allowed as allowed
 use Rattle.esr_core.specs.Allowed.{RestoreAllows, AcceptsRestore, CloneAllows, DeleteAllows, CleanupAllows, ReadAllows, VerifyAllows, PruneAllows, Allows, Blocks, Allowed}
 use Rattle.esr_core.specs.Causes.{RefusalCause, OfRule, OfCleanup, OfName, OfTestName, OfTerm, OfIds, OfGenerations, OfTerms, OfCall, SettleDid, RestoreBegan}
-use Rattle.esr_core.proofs.AskedNumbers.{same_few, snapshot_few}
+use Rattle.esr_core.proofs.AskedNumbers.{snapshot_few}
 
 module _ (f : Formats) (size : ℕ) (w : World) where
   one_id : first_id (suc w.term) ≤ suc w.next_id → first_id (suc w.term) ≤ w.next_id + 1
@@ -29,7 +29,7 @@ module _ (f : Formats) (size : ℕ) (w : World) where
   clone who source name names moment taken refusal image (allowed.SourceDeleted uuid d im may listed named) = OfRule _ (Clone source name names moment None) refl tt
   clone who source name names moment taken refusal image (allowed.IndexMissing uuid place im may missing) = OfRule _ (Clone source name names moment None) refl tt
   clone who source name names moment taken refusal image (allowed.FullOfClones uuid im may full) = OfRule _ (Clone source name names moment None) refl tt
-  clone who source name names moment taken refusal image (allowed.CloneSpent uuid im may room spent) = OfIds 1 (same_few 1) (one_id spent)
+  clone who source name names moment taken refusal image (allowed.CloneSpent uuid im may room spent) = OfIds 1 (le_refl 1) (one_id spent)
   clone who source name names moment taken refusal image (allowed.CloneFault t im acc) = OfCall
 
   delete : (who : ℕ) (names : List Bytes) (refusal : Refusal) (image : Option Image) → DeleteAllows w names (Refused refusal) → RefusalCause f size w who (AskStep (DeleteSnapshots names)) image refusal
@@ -48,7 +48,7 @@ module _ (f : Formats) (size : ℕ) (w : World) where
   read_cause k read refusal image (allowed.ReadFault j name im stored by) = OfCall
 
   verify : (read : Read) (refusal : Refusal) (image : Option Image) → VerifyAllows f w read (Refused refusal) image → RefusalCause f size w 0 (ReadStep read) image refusal
-  verify read refusal image (allowed.TestSpent im may spent same) = OfIds 1 (same_few 1) (one_id spent)
+  verify read refusal image (allowed.TestSpent im may spent same) = OfIds 1 (le_refl 1) (one_id spent)
   verify read refusal image (allowed.BeginTestFails name im own same) = OfCall
   verify read refusal image (allowed.TestTaken name im own there) = OfTestName name own refl there
   verify read refusal image (allowed.CommitTestFails name bytes im own leaves) = OfCall
@@ -56,7 +56,7 @@ module _ (f : Formats) (size : ℕ) (w : World) where
 
   prune : (k : ℕ) (step : Prune) (refusal : Refusal) (image : Option Image) → PruneAllows f w k step (Refused refusal) image → RefusalCause f size w k (PruneStep step) image refusal
   prune who step refusal image (allowed.FetchShardFails k name im g same) = OfCall
-  prune who step refusal image (allowed.PlanSpent k shards im p spent same) = OfIds (kept_count shards) (same_few (kept_count shards)) spent
+  prune who step refusal image (allowed.PlanSpent k shards im p spent same) = OfIds (kept_count shards) (le_refl (kept_count shards)) spent
   prune who step refusal image (allowed.SettleDeleteStale k im s apart same) = OfTerm s.t s.may.out apart
   prune who step refusal image (allowed.SettleDeleteFails k im s present same) = OfCall
   prune who step refusal image (allowed.RemoveDoomedFails k names im r removes) = OfCall
@@ -73,7 +73,7 @@ module _ (f : Formats) (size : ℕ) (w : World) where
   cause_by who step refusal image (allowed.Used name indices moment uuid im clear is same) = OfRule _ (Snapshot name indices moment) refl tt
   cause_by who step refusal image (allowed.Full name indices moment im clear unused full same) = OfRule _ (Snapshot name indices moment) refl tt
   cause_by who step refusal image (allowed.AskSpent name indices moment im clear unused room spent same) = OfIds (suc (new_names w indices)) (snapshot_few w indices) spent
-  cause_by who step refusal image (allowed.DrawSpent k n im may spent same) = OfIds n (same_few n) spent
+  cause_by who step refusal image (allowed.DrawSpent k n im may spent same) = OfIds n (le_refl n) spent
   cause_by who step refusal image (allowed.RaiseStale k im may apart same) = OfTerm may.t may.out apart
   cause_by who step refusal image (allowed.SettleStale k n t s im may apart same) = OfTerm t may.out apart
   cause_by who step refusal image (allowed.DropStale k im may apart same) = OfTerm may.t may.out apart
@@ -92,7 +92,8 @@ module _ (f : Formats) (size : ℕ) (w : World) where
   cause_by who step refusal image (allowed.DropFails k im d same) = OfCall
   cause_by who step refusal image (allowed.ElectFails im room same) = OfCall
 
-pub refusal_cause : (f : Formats) (size : ℕ) (w : World) (m : Moment) (refusal : Refusal) → Allowed f size w m → m.entry.reply ≡ Refused refusal → Blocks w m.entry.who m.entry.step refusal ⊎ RefusalCause f size w m.entry.who m.entry.step m.image refusal
+pub refusal_cause : (f : Formats) (size : ℕ) (w : World) (m : Moment) (refusal : Refusal) → Allowed f size w m → m.entry.reply ≡ Refused refusal
+    → Blocks w m.entry.who m.entry.step refusal ⊎ RefusalCause f size w m.entry.who m.entry.step m.image refusal
 refusal_cause f size w m refusal a is = elim a.answered [
   | inl alive ↦ inr (cause_by f size w m.entry.who m.entry.step refusal m.image (subst (λ reply. Allows f size w m.entry.who m.entry.step reply m.image) is alive.1))
   | inr blocked ↦ inl (subst (Blocks w m.entry.who m.entry.step) (same_refusal _ refusal (sym blocked.refused ∙ is)) blocked.blocks)
@@ -145,7 +146,8 @@ settle_did f size w m a is = elim a.answered [
   | inr blocked ↦ absurd (no_settle blocked.refusal (sym is ∙ blocked.refused))
 ]
 
-pub restore_began : (f : Formats) (size : ℕ) (w : World) (m : Moment) (o uuid : ℕ) (indices : List IndexRef) → Allowed f size w m → m.entry.reply ≡ AcceptedRestore o uuid indices → RestoreBegan f w m.entry.who m.entry.step o uuid indices m.image
+pub restore_began : (f : Formats) (size : ℕ) (w : World) (m : Moment) (o uuid : ℕ) (indices : List IndexRef) → Allowed f size w m → m.entry.reply ≡ AcceptedRestore o uuid indices
+    → RestoreBegan f w m.entry.who m.entry.step o uuid indices m.image
 restore_began f size w m o uuid indices a is = elim a.answered [
   | inl alive ↦ began_by f size w m.entry.who m.entry.step o uuid indices m.image (subst (λ reply. Allows f size w m.entry.who m.entry.step reply m.image) is alive.1)
   | inr blocked ↦ absurd (no_restore o uuid indices blocked.refusal (sym is ∙ blocked.refused))

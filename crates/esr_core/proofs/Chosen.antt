@@ -11,32 +11,13 @@ use Rattle.esr_model.specs.Image.{AllPairs}
 use Rattle.esr_model.specs.Uploads.{same_bytes}
 use Rattle.esr_core.specs.Restores.{AreOnce, AreApart}
 use Rattle.esr_core.specs.Laws.Maps.{texts_same}
-use Rattle.esr_model.specs.Lists.{Has-either, Has-map, Has-mapped}
+use Rattle.esr_model.specs.Lists.{Has-either, Has-map, Has-mapped, Has-filter, filter-Has}
 use Rattle.esr_core.specs.Laws.SortedLists.{Has-put_by, Has-sorted, in_places, to_shelf_places}
 use Rattle.esr_core.proofs.Ordered.{in_shelf_places}
 use Rattle.esr_core.specs.Laws.RootAgreement.{places_has}
 use Rattle.esr_core.specs.Laws.Tests.{same_one, same_true}
 
 -- ---- what a filter leaves
-
-Has-filter : {A : Type 0} (p : A → Bool) (xs : List A) (y : A) → Has (filter p xs) y → Has xs y × (p y ≡ true)
-Has-filter p [] y h = absurd h
-Has-filter {A} p (x ∷ xs) y h = elim (cases_Bool (p x)) [
-  | inl t ↦ first t (subst (λ (l : List A). Has l y) (cond-true (p x) (x ∷ filter p xs) (filter p xs) t) h) (Has-filter p xs y)
-  | inr t ↦ let g = Has-filter p xs y (subst (λ (l : List A). Has l y) (cond-false (p x) (x ∷ filter p xs) (filter p xs) t) h) in (inr g.0, g.1)
-]
-  where
-    first : p x ≡ true → Has (x ∷ filter p xs) y → (Has (filter p xs) y → Has xs y × (p y ≡ true)) → Has (x ∷ xs) y × (p y ≡ true)
-    first t (inl e) rest = (inl e, subst (λ (z : A). p z ≡ true) e t)
-    first t (inr m) rest = let g = rest m in (inr g.0, g.1)
-
-pub filter-Has : {A : Type 0} (p : A → Bool) (xs : List A) (y : A) → Has xs y → p y ≡ true → Has (filter p xs) y
-filter-Has p [] y h e = absurd h
-filter-Has {A} p (x ∷ xs) y (inl s) e = subst (λ (l : List A). Has l y) (sym (cond-true (p x) (x ∷ filter p xs) (filter p xs) (subst (λ (z : A). p z ≡ true) (sym s) e))) (inl s)
-filter-Has {A} p (x ∷ xs) y (inr m) e = elim (cases_Bool (p x)) [
-  | inl t ↦ subst (λ (l : List A). Has l y) (sym (cond-true (p x) (x ∷ filter p xs) (filter p xs) t)) (inr (filter-Has p xs y m e))
-  | inr t ↦ subst (λ (l : List A). Has l y) (sym (cond-false (p x) (x ∷ filter p xs) (filter p xs) t)) (filter-Has p xs y m e)
-]
 
 -- of two lists in pairs, pair by pair
 pub filter_pairs : {A B : Type 0} (R : A → B → Type 0) (p : A → Bool) (q : B → Bool) → ((a : A) (b : B) → R a b → p a ≡ q b) → (xs : List A) (ys : List B) → AllPairs R xs ys → AllPairs R (filter p xs) (filter q ys)

@@ -57,8 +57,8 @@ module _ (f : Formats) (has : BlobName → Bytes → Type 0) (func : IsOne has) 
   ]
 
   -- a shard of which a list goes has another generation
-  victim_goes : (x : RootIndex) → Has root.indices x → (i k g : ℕ) → x.id ≡ i → Generation root i k g → (was : ShardFiles) → files_read f read (bare_shard i k g) ≡ Some was → list_any (is_victim clean uuids (uuids_of root)) was.snapshots ≡ true
-      → Generation (deleted_root root uuids shards first) i k g → fresh_from first shards i k ≡ None → ⊥
+  victim_goes : (x : RootIndex) → Has root.indices x → (i k g : ℕ) → x.id ≡ i → Generation root i k g → (was : ShardFiles) → files_read f read (bare_shard i k g) ≡ Some was
+      → list_any (is_victim clean uuids (uuids_of root)) was.snapshots ≡ true → Generation (deleted_root root uuids shards first) i k g → fresh_from first shards i k ≡ None → ⊥
   victim_goes x there i k g id gen was e any stays old = elim (cases_Bool (has_none (left_uuids uuids x.snapshots))) [
     | inl leaves ↦
         let (y, y_there, y_id) = generation_index new i k g stays in
@@ -75,7 +75,8 @@ module _ (f : Formats) (has : BlobName → Bytes → Type 0) (func : IsOne has) 
         none_fresh (own_id n p) (sym old ∙ ap (λ (v : ℕ). fresh_from first shards v k) (sym id) ∙ fresh)
   ]
 
-  pub cleaned_lists : (i k g : ℕ) → Generation (deleted_root root uuids shards first) i k g → (h : ShardFiles) → Reads has (ShardIndex i k g) f.shard_index h → (l : SnapList) → Has h.snapshots l → names_uuid (uuids_of root) l.uuid ≡ true
+  pub cleaned_lists : (i k g : ℕ) → Generation (deleted_root root uuids shards first) i k g → (h : ShardFiles) → Reads has (ShardIndex i k g) f.shard_index h → (l : SnapList) → Has h.snapshots l
+      → names_uuid (uuids_of root) l.uuid ≡ true
   cleaned_lists i k g gen h reads l m = elim (deleted_generations root one uuids shards first apart i k g gen) [
     | inl old ↦
         let (x, there, id) = generation_index root i k g old.1 in
@@ -93,19 +94,24 @@ module _ (f : Formats) (has : BlobName → Bytes → Type 0) (func : IsOne has) 
         let its : files_read f read r.p ≡ Some was = ap (files_by f) (bytes_same read r.p (bare_shard i k r.p.base) r.index_is r.number_is refl) ∙ e in
         let text : Has (pruned_blobs f read left first shards) (ShardIndex i k g, f.shard_index.text (surviving left was)) =
         subst (λ (o : Option ShardFiles). Has (pruned_blobs f read left first shards) (ShardIndex i k g, left_text f left o)) its r.own in
-        let now : Reads has (ShardIndex i k g) f.shard_index (surviving left was) = record { bytes = f.shard_index.text (surviving left was); there = written (ShardIndex i k g) (f.shard_index.text (surviving left was)) text; reads = writable r.p was r.there its } in
+        let now : Reads has (ShardIndex i k g) f.shard_index (surviving left was) = record {
+          bytes = f.shard_index.text (surviving left was);
+          there = written (ShardIndex i k g) (f.shard_index.text (surviving left was)) text;
+          reads = writable r.p was r.there its;
+        } in
         let is : h ≡ surviving left was = reads_one has func (ShardIndex i k g) f.shard_index h (surviving left was) reads now in
         let l_left : names_uuid left l.uuid ≡ true = passed (λ (z : SnapList). names_uuid left z.uuid) was.snapshots l (subst (λ (z : ShardFiles). Has z.snapshots l) is m) in
         has_names (uuids_of root) l.uuid (uuid_was uuids (uuids_of root) l.uuid (names_has left l.uuid l_left))
   ]
 
 -- each index of the root of a cleanup that may settle lists listed snapshots alone
-pub lists_now : (f : Formats) (w : World) (shelf : List Shelved) → Law f w shelf → (k : ℕ) (s : SettlesDeletion f w k) → s.t.term ≡ w.term → s.t.clean ≡ true → (i j g : ℕ) → Generation s.s.root i j g → (h : ShardFiles) → Reads (HeldIn f w) (ShardIndex i j g) f.shard_index h
-    → (x : SnapList) → Has h.snapshots x → (z : RootSnap) × Has s.s.root.snapshots z × (z.uuid ≡ x.uuid)
+pub lists_now : (f : Formats) (w : World) (shelf : List Shelved) → Law f w shelf → (k : ℕ) (s : SettlesDeletion f w k) → s.t.term ≡ w.term → s.t.clean ≡ true → (i j g : ℕ) → Generation s.s.root i j g → (h : ShardFiles)
+    → Reads (HeldIn f w) (ShardIndex i j g) f.shard_index h → (x : SnapList) → Has h.snapshots x → (z : RootSnap) × Has s.s.root.snapshots z × (z.uuid ≡ x.uuid)
 lists_now f w shelf l k s present clean i j g gen h reads x m =
     let p : IsPlanned f s.t.clean s.t.root s.t.read s.t.first s.uuids s.s = plan f w shelf l k s present in
     let at = root_is f w shelf l k s present in
-    let named = cleaned_lists f (HeldIn f w) (held_one f w) s.t.root (once f w shelf l k s present) s.uuids s.t.read s.t.first s.t.clean clean (pruned f w shelf l k s present).held p.are_read p.of_root p.writable (written f w shelf l k s present) i j g (subst (λ (r : RootData). Generation r i j g) at gen) h reads x m in
+    let named = cleaned_lists f (HeldIn f w) (held_one f w) s.t.root (once f w shelf l k s present) s.uuids s.t.read s.t.first s.t.clean clean
+    (pruned f w shelf l k s present).held p.are_read p.of_root p.writable (written f w shelf l k s present) i j g (subst (λ (r : RootData). Generation r i j g) at gen) h reads x m in
     let (z, there, same) = Has-mapped (λ (y : RootSnap). y.uuid) s.t.root.snapshots x.uuid (names_has (uuids_of s.t.root) x.uuid named) in
     let all : (deleted_root s.t.root s.uuids (pruned_shards f s.t.clean s.t.root s.uuids s.t.read) s.t.first).snapshots ≡ left_snaps s.uuids s.t.root.snapshots =
     deleted_snapshots s.t.root (once f w shelf l k s present) s.uuids (pruned_shards f s.t.clean s.t.root s.uuids s.t.read) s.t.first (of_root_apart s.t.root (pruned_shards f s.t.clean s.t.root s.uuids s.t.read) p.of_root) in

@@ -40,8 +40,8 @@ files_split f (Some b) was e = (b, refl, e)
 
 module _ (f : Formats) (has : BlobName → Bytes → Type 0) (func : IsOne has) where
   -- among blobs that are all there the index that is there is read
-  found_there : (xs : List (BlobName × Bytes)) → ((name : BlobName) (bytes : Bytes) → Has xs (name, bytes) → has name bytes) → (i k g : ℕ) (was : ShardFiles) (r : Reads has (ShardIndex i k g) f.shard_index was) → Has xs (ShardIndex i k g, r.bytes)
-      → files_read f xs (bare_shard i k g) ≡ Some was
+  found_there : (xs : List (BlobName × Bytes)) → ((name : BlobName) (bytes : Bytes) → Has xs (name, bytes) → has name bytes) → (i k g : ℕ) (was : ShardFiles) (r : Reads has (ShardIndex i k g) f.shard_index was)
+      → Has xs (ShardIndex i k g, r.bytes) → files_read f xs (bare_shard i k g) ≡ Some was
   found_there xs all i k g was r m =
       let (c, e) = index_found xs i k g r.bytes m in
       let same : c ≡ r.bytes = func (ShardIndex i k g) c r.bytes (all (ShardIndex i k g) c (bytes_there xs (bare_shard i k g) c e)) r.there in
@@ -93,13 +93,18 @@ module _ (f : Formats) (has : BlobName → Bytes → Type 0) (func : IsOne has) 
         let (was, e) = was_read i k r.p.base base in
         let its : files_read f read r.p ≡ Some was = ap (files_by f) (bytes_same read r.p (bare_shard i k r.p.base) r.index_is r.number_is refl) ∙ e in
         let text : Has own (ShardIndex i k g, f.shard_index.text (surviving left was)) = subst (λ (o : Option ShardFiles). Has own (ShardIndex i k g, left_text f left o)) its r.own in
-        let now : Reads has (ShardIndex i k g) f.shard_index (surviving left was) = record { bytes = f.shard_index.text (surviving left was); there = written (ShardIndex i k g) (f.shard_index.text (surviving left was)) text; reads = writable r.p was r.there its } in
+        let now : Reads has (ShardIndex i k g) f.shard_index (surviving left was) = record {
+          bytes = f.shard_index.text (surviving left was);
+          there = written (ShardIndex i k g) (f.shard_index.text (surviving left was)) text;
+          reads = writable r.p was r.there its;
+        } in
         (surviving left was, found_there f has func (own ++ read) all_there i k g (surviving left was) now (Has-left own read (ShardIndex i k g, f.shard_index.text (surviving left was)) text), now)
   ]
 
 -- ---- what is doomed
 
-unreached_has : (f : Formats) (number : Option ℕ) (root : RootData) (read : List (BlobName × Bytes)) (names : List BlobName) (name : BlobName) → Has names name → reaches f number root read name ≡ false → Has (unreached f number root read names) name
+unreached_has : (f : Formats) (number : Option ℕ) (root : RootData) (read : List (BlobName × Bytes)) (names : List BlobName) (name : BlobName) → Has names name → reaches f number root read name ≡ false
+    → Has (unreached f number root read names) name
 unreached_has f number root read [] name m e = absurd m
 unreached_has f number root read (x ∷ names) name m e = elim (cases_Bool (reaches f number root read x)) [
   | inl b ↦ subst (λ (ns : List BlobName). Has ns name) (sym (cond-true _ _ _ b)) (elim m [
@@ -109,6 +114,7 @@ unreached_has f number root read (x ∷ names) name m e = elim (cases_Bool (reac
   | inr b ↦ subst (λ (ns : List BlobName). Has ns name) (sym (cond-false _ _ _ b)) (elim m [ inl same ↦ inl same | inr later ↦ inr (unreached_has f number root read names name later e) ])
 ]
 
-pub cleaned_has : (f : Formats) (number : Option ℕ) (root : RootData) (read : List (BlobName × Bytes)) (listed : List BlobSize) (name : BlobName) → Has (names_listed f listed) name → reaches f number root read name ≡ false → Has (cleaned_names f number root read listed) name
+pub cleaned_has : (f : Formats) (number : Option ℕ) (root : RootData) (read : List (BlobName × Bytes)) (listed : List BlobSize) (name : BlobName) → Has (names_listed f listed) name → reaches f number root read name ≡ false
+    → Has (cleaned_names f number root read listed) name
 unfolding cleaned_names
 cleaned_has f number root read listed name m e = unreached_has f number root read (names_listed f listed) name m e

@@ -19,7 +19,8 @@ use Rattle.esr_core.proofs.Storing.{extended_old}
 use Rattle.esr_core.specs.Laws.CloneSources.{SourceStands, source_stands}
 use Rattle.esr_core.proofs.Copying.{source_in_base, source_found}
 
-module _ (f : Formats) (w : World) (shelf : List Shelved) (l : Law f w shelf) (k : ℕ) (t : Ticket) (out : IsOut w k t) (r : ShardResult) (is : t.work ≡ Shard r.index r.shard) (source : ℕ) (copies : t.source ≡ Some source) (b : ClonedBy f t source r) where
+module _ (f : Formats) (w : World) (shelf : List Shelved) (l : Law f w shelf) (k : ℕ) (t : Ticket) (out : IsOut w k t) (r : ShardResult)
+    (is : t.work ≡ Shard r.index r.shard) (source : ℕ) (copies : t.source ≡ Some source) (b : ClonedBy f t source r) where
   law : WroteLaw f w.blobs t
   law = l.written k t out.there out.out (subst IsShard (sym is) tt)
 
@@ -51,7 +52,11 @@ module _ (f : Formats) (w : World) (shelf : List Shelved) (l : Law f w shelf) (k
       subst (λ (h : ShardFiles). Has h.files e) (sym base_is) (source_in_base f w t r.index r.shard source stands e (subst (λ (x : ShardSnapshot). Has x.files e) same m))
 
   pub cloned_found : (op : Op) → fin.get w.ops t.op ≡ Some op → op.source ≡ Some source → (s : ShardWork) → Has op.shards s → s.state ≡ Out k
-      → (new : World) → new ≡ record w { ops = fin.insert w.ops t.op (record op { shards = map (marked k (Done r)) op.shards }); tickets = fin.insert w.tickets k (record t { out = false }); completed = completing w.completed t.op (map (marked k (Done r)) op.shards) }
+      → (new : World) → new ≡ record w {
+        ops = fin.insert w.ops t.op (record op { shards = map (marked k (Done r)) op.shards });
+        tickets = fin.insert w.tickets k (record t { out = false });
+        completed = completing w.completed t.op (map (marked k (Done r)) op.shards);
+      }
       → DoneFound f w k r new
   cloned_found op op_there op_copies s s_there state new e =
       let files : List FileEntry = b.was.files in
@@ -80,7 +85,8 @@ module _ (f : Formats) (w : World) (shelf : List Shelved) (l : Law f w shelf) (k
       }
 
 -- it wrote two texts
-pub wrote_two : (f : Formats) (t : Ticket) (source : ℕ) (r : ShardResult) → ClonedBy f t source r → (name : BlobName) (bytes : Bytes) → Has t.wrote (name, bytes) → (name ≡ ShardSnap r.index r.shard t.uuid) ⊎ (name ≡ ShardIndex r.index r.shard r.generation)
+pub wrote_two : (f : Formats) (t : Ticket) (source : ℕ) (r : ShardResult) → ClonedBy f t source r → (name : BlobName) (bytes : Bytes) → Has t.wrote (name, bytes)
+    → (name ≡ ShardSnap r.index r.shard t.uuid) ⊎ (name ≡ ShardIndex r.index r.shard r.generation)
 wrote_two f t source r b name bytes m = go (b.only name bytes m)
   where
     go : Has (clone_blobs f b.base r.index r.shard t.uuid t.first b.was.files) (name, bytes) → (name ≡ ShardSnap r.index r.shard t.uuid) ⊎ (name ≡ ShardIndex r.index r.shard r.generation)

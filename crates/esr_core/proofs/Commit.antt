@@ -37,8 +37,13 @@ root_whole f blobs ledger shelf t name bytes valid absent doomed l out (inl (s, 
             shelf_after shelf s.commands,
             record {
               root = s.root;
-              root_reads = record { bytes = bytes; there = (subst (λ x. At f (added f blobs name bytes valid absent doomed) x bytes) e (at_new f blobs name bytes valid absent doomed), l.clean_root n raised above); reads = ap f.root.read new.text ∙ (l.shape s is).root_back };
-              stands = root_kept f (Safely f blobs doomed) (now f blobs name bytes valid absent doomed) (safe_kept f blobs name bytes valid absent doomed) s.root (shelf_after shelf s.commands) (written f (Safely f blobs doomed) shelf t.noted s law new.ready);
+              root_reads = record {
+                bytes = bytes;
+                there = (subst (λ x. At f (added f blobs name bytes valid absent doomed) x bytes) e (at_new f blobs name bytes valid absent doomed), l.clean_root n raised above);
+                reads = ap f.root.read new.text ∙ (l.shape s is).root_back;
+              };
+              stands = root_kept f (Safely f blobs doomed) (now f blobs name bytes valid absent doomed) (safe_kept f blobs name bytes valid absent doomed) s.root
+                  (shelf_after shelf s.commands) (written f (Safely f blobs doomed) shelf t.noted s law new.ready);
             },
           ),
     )
@@ -61,7 +66,8 @@ mine f blobs ledger shelf t name bytes valid absent doomed l may =
       listed = l.listed;
       clean = λ s i. l.clean s (record { is = i.is; out = i.out; unsettled = i.unsettled });
       last = λ s i. l.last s (record { is = i.is; out = i.out; unsettled = i.unsettled });
-      swaps = λ s i c. noted_more s i.is (λ n r. l.clean s (record { is = i.is; out = i.out; unsettled = i.unsettled }) c n r) (above s (record { is = i.is; out = i.out; unsettled = i.unsettled }) c) (swap_added f blobs name bytes valid absent doomed shelf t.noted s (l.swaps s (record { is = i.is; out = i.out; unsettled = i.unsettled }) c));
+      swaps = λ s i c. noted_more s i.is (λ n r. l.clean s (record { is = i.is; out = i.out; unsettled = i.unsettled }) c n r) (above s (record { is = i.is; out = i.out; unsettled = i.unsettled }) c)
+          (swap_added f blobs name bytes valid absent doomed shelf t.noted s (l.swaps s (record { is = i.is; out = i.out; unsettled = i.unsettled }) c));
     }
   where
     there : (s : Swap) → swap f t ≡ Some s → (m : BlobName) (b : Bytes) → Has s.own (m, b) → name ≡ m → At f (added f blobs name bytes valid absent doomed) m b
@@ -108,7 +114,8 @@ mine f blobs ledger shelf t name bytes valid absent doomed l may =
     above s i (inl p) n e = (l.last s i p n e).1
     above s i (inr (m, e', le)) n e = let one : m ≡ n = same_Some _ _ (sym e' ∙ e) in omega arith
 
-    noted_more : (s : Swap) → swap f t ≡ Some s → ((m : BlobName) (b : Bytes) → Has s.own (m, b) → Has doomed m → ⊥) → ((n : ℕ) → t.raised ≡ Some n → ledger.safe ≤ n) → SwapLaw f (now f blobs name bytes valid absent doomed) shelf t.noted s → SwapLaw f (now f blobs name bytes valid absent doomed) shelf (name ∷ t.noted) s
+    noted_more : (s : Swap) → swap f t ≡ Some s → ((m : BlobName) (b : Bytes) → Has s.own (m, b) → Has doomed m → ⊥) → ((n : ℕ) → t.raised ≡ Some n → ledger.safe ≤ n)
+        → SwapLaw f (now f blobs name bytes valid absent doomed) shelf t.noted s → SwapLaw f (now f blobs name bytes valid absent doomed) shelf (name ∷ t.noted) s
     noted_more s is clean above h = record {
       staged = h.staged;
       noted = λ m b own. elim [ inl e ↦ (there s is m b own e, clean m b own) | inr was ↦ h.noted m b own was ];

@@ -46,7 +46,8 @@ goes_or_not op = go op.failed refl op.aborted refl
     go false e None h = inl (record { unfailed = e; unaborted = h })
     go false e (Some by) h = inr (inr (by, h))
 
-module _ (f : Formats) (w : World) (shelf : List Shelved) (l : Lawful f w shelf) (idle : (k : ℕ) (t : Ticket) → fin.get w.tickets k ≡ Some t → t.out ≡ true → ⊥) (no_restore : (o : ℕ) (r : Restoring) → fin.get w.restores o ≡ Some r → ⊥) where
+module _ (f : Formats) (w : World) (shelf : List Shelved) (l : Lawful f w shelf) (idle : (k : ℕ) (t : Ticket) → fin.get w.tickets k ≡ Some t → t.out ≡ true → ⊥)
+    (no_restore : (o : ℕ) (r : Restoring) → fin.get w.restores o ≡ Some r → ⊥) where
   no_swap : (k : ℕ) → SwapIsOut w.tickets w.term k → ⊥
   no_swap k h = idle k h.t h.there h.out
 

@@ -7,6 +7,7 @@ use Rattle.esr_model.specs.Values.{Bytes, Has, IndexRef, SnapInfo, FileEntry, Sh
 use Rattle.esr_model.specs.Shelf.{ShelfShard, Shelved, shelved_at}
 use Rattle.esr_model.specs.Places.{shelf_places}
 use Rattle.esr_model.specs.Image.{AllPairs, At, Reads, FileStands, ShardStands, RootStands}
+use Rattle.esr_model.specs.Lists.{pairs_both}
 use Rattle.esr_core.specs.World.{World, Op, Ticket, HeldIn}
 use Rattle.esr_core.specs.Generations.{CopiesFrom}
 use Rattle.esr_core.specs.Ids.{Law}
@@ -15,7 +16,6 @@ use Rattle.esr_core.specs.Laws.SortedLists.{to_shelf_places}
 use Rattle.esr_core.specs.Laws.RootAgreement.{places_has}
 use Rattle.esr_core.specs.Laws.CloneSources.{SourceStands}
 use Rattle.esr_core.proofs.Staging.{IsShelved, listed_shelved}
-use Rattle.esr_core.proofs.ListedInfo.{pairs_both}
 
 entry_in : (files : List FileEntry) (ids : List ℕ) (es : List FileEntry) → AllPairs (λ (id : ℕ) (e : FileEntry). (e.name ≡ id) × Has files e) ids es → (e : FileEntry) → Has es e → Has files e
 entry_in files [] [] h e m = absurd m

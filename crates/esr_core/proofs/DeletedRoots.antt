@@ -13,7 +13,8 @@ use Rattle.esr_core.specs.Laws.Tests.{pair_tells}
 -- ---- without some snapshots
 
 -- and stays in an index that is left
-pub generation_left : (root : RootData) → IsOneEach root.indices → (uuids : List ℕ) (i k g : ℕ) → Generation root i k g → (x : RootIndex) (u : ℕ) → Has root.indices x → x.id ≡ i → Has x.snapshots u → names_uuid uuids u ≡ false → Generation (left_root root uuids) i k g
+pub generation_left : (root : RootData) → IsOneEach root.indices → (uuids : List ℕ) (i k g : ℕ) → Generation root i k g → (x : RootIndex) (u : ℕ) → Has root.indices x → x.id ≡ i → Has x.snapshots u
+    → names_uuid uuids u ≡ false → Generation (left_root root uuids) i k g
 generation_left root one uuids i k g gen x u there id mine e =
     let new : index_at (left_indices uuids root.indices) i ≡ Some (left_of uuids x) = one_found (left_indices uuids root.indices) (left_one_each uuids root.indices one) (left_of uuids x) (index_left uuids root.indices x u there mine e) i id in
     ap (λ (z : Option RootIndex). at_shard_of z k) new ∙ sym (ap (λ (z : Option RootIndex). at_shard_of z k) (one_found root.indices one x there i id)) ∙ gen

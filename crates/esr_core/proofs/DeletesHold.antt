@@ -7,12 +7,12 @@ use Rattle.std.proofs.lemmas.Option.{same_Some, none-some}
 use Rattle.std.proofs.lemmas.Bool.{cond-true, cond-false, cases_Bool}
 use Rattle.esr_core.specs.Laws.DeleteRoots.{has_names, names_has, bytes_same, one_found, uuid_left, AreApart, deleted_snapshots, deleted_generations}
 use Rattle.esr_core.specs.Laws.Tests.{clash, any_of, pair_tells}
-use Rattle.esr_core.proofs.Chosen.{filter-Has}
 use Rattle.esr_model.specs.Names.{BlobName, ShardIndex}
 use Rattle.esr_model.specs.Values.{Bytes, Has, RootSnap, RootIndex, RootData, FileEntry, SnapList, ShardFiles, ReadsBack, IsOneEach, Formats}
 use Rattle.esr_model.specs.Shelf.{names_uuid}
 use Rattle.esr_model.specs.Image.{IsOne, AllPairs, Reads, Lists, Generation, at_shard, at_shard_of}
 use Rattle.esr_model.specs.Delete.{left_snaps, Prunes, Deletes, PrunedShard, next_after, own_id, fresh_from, left_uuids, uuids_of, lists_file, listed_lists, surviving, is_index, files_by, files_read, left_text, pruned_blobs, deleted_root}
+use Rattle.esr_model.specs.Lists.{filter-Has}
 use Rattle.esr_core.specs.Pruning.{is_left, is_victim, has_none, is_touched, bare_shard, pruned_shards, IsToRead}
 use Rattle.esr_core.specs.Laws.OneValue.{reads_one}
 use Rattle.esr_core.proofs.DeletedRoots.{deleted_from, deleted_kept, deleted_stays, deleted_now}
@@ -87,7 +87,8 @@ some_of listed (x ∷ lists) l m e = elim (cases_Bool (names_uuid listed x.uuid)
 ]
 
 -- a list that was read is of a listed snapshot, or its uuid is among these
-list_read : (f : Formats) (listed : List ℕ) (read : List (BlobName × Bytes)) (p : PrunedShard) (was : ShardFiles) (l : SnapList) → files_read f read p ≡ Some was → Has was.snapshots l → names_uuid (unlisted_read f listed read) l.uuid ≡ false → names_uuid listed l.uuid ≡ true
+list_read : (f : Formats) (listed : List ℕ) (read : List (BlobName × Bytes)) (p : PrunedShard) (was : ShardFiles) (l : SnapList) → files_read f read p ≡ Some was → Has was.snapshots l
+    → names_uuid (unlisted_read f listed read) l.uuid ≡ false → names_uuid listed l.uuid ≡ true
 list_read f listed [] p was l e m none = absurd (none-some was e)
 list_read f listed (blob ∷ read) p was l e m none =
     let split = names_first (unlisted_by listed (f.shard_index.read blob.1)) (unlisted_read f listed read) l.uuid none in

@@ -28,7 +28,8 @@ pub cleans_is : (f : Formats) (t : Ticket) (uuids : List ℕ) (s : Swap) → t.w
 cleans_is f t uuids s work clean = ap (doomed_by f t) work ∙ ap (doomed_as f t uuids s) clean
 
 -- it goes by these alone
-pub dooms_alike : (f : Formats) (t v : Ticket) (uuids : List ℕ) (s : Swap) → t.work ≡ Deleting uuids (Some s) → v.work ≡ Deleting uuids (Some s) → v.clean ≡ t.clean → v.safe ≡ t.safe → v.root ≡ t.root → v.read ≡ t.read → v.raised ≡ t.raised → v.listed ≡ t.listed → dooms f v ≡ dooms f t
+pub dooms_alike : (f : Formats) (t v : Ticket) (uuids : List ℕ) (s : Swap) → t.work ≡ Deleting uuids (Some s) → v.work ≡ Deleting uuids (Some s) → v.clean ≡ t.clean → v.safe ≡ t.safe → v.root ≡ t.root → v.read ≡ t.read
+    → v.raised ≡ t.raised → v.listed ≡ t.listed → dooms f v ≡ dooms f t
 dooms_alike f t v uuids s work now clean safe root read raised listed = ap (doomed_by f v) now ∙ ap (doomed_as f v uuids s) clean ∙ by t.clean ∙ sym (ap (doomed_by f t) work)
   where
     by : (b : Bool) → doomed_as f v uuids s b ≡ doomed_as f t uuids s b
@@ -57,8 +58,8 @@ module _ (f : Formats) (blobs : Blobs) (doomed : List BlobName) (safe term : ℕ
       }
 
   -- one given anew in what these don't read
-  again : (k : ℕ) (t : Ticket) → fin.get tickets k ≡ Some t → (noted : List BlobName) (wrote : List (BlobName × Bytes)) (raised : Option ℕ) (tried out : Bool) → (out ≡ true → t.out ≡ true) → (t.settled ≡ true → raised ≡ t.raised)
-      → PruneLaws f blobs doomed safe term (fin.insert tickets k (record t { noted = noted; wrote = wrote; raised = raised; tried_latest = tried; out = out }))
+  again : (k : ℕ) (t : Ticket) → fin.get tickets k ≡ Some t → (noted : List BlobName) (wrote : List (BlobName × Bytes)) (raised : Option ℕ) (tried out : Bool) → (out ≡ true → t.out ≡ true)
+      → (t.settled ≡ true → raised ≡ t.raised) → PruneLaws f blobs doomed safe term (fin.insert tickets k (record t { noted = noted; wrote = wrote; raised = raised; tried_latest = tried; out = out }))
   again k t there noted wrote raised tried out back same =
       put k (record t { noted = noted; wrote = wrote; raised = raised; tried_latest = tried; out = out })
       (λ uuids plan o uns pres is. let old = h.unsettled k t uuids plan there (back o) uns pres is in record { held = old.held; safe_is = old.safe_is; follows = old.follows })
@@ -70,7 +71,8 @@ module _ (f : Formats) (blobs : Blobs) (doomed : List BlobName) (safe term : ℕ
   ended k t there = again k t there t.noted t.wrote t.raised t.tried_latest false (λ e. absurd (true≢false (sym e))) (λ e. refl)
 
   -- a new one: of a delete it has no plan yet
-  new_one : (k : ℕ) (v : Ticket) → v.settled ≡ false → ((uuids : List ℕ) (plan : Option Swap) → v.work ≡ Deleting uuids plan → (v.read ≡ []) × (v.safe ≡ safe) × (plan ≡ None)) → PruneLaws f blobs doomed safe term (fin.insert tickets k v)
+  new_one : (k : ℕ) (v : Ticket) → v.settled ≡ false → ((uuids : List ℕ) (plan : Option Swap) → v.work ≡ Deleting uuids plan → (v.read ≡ []) × (v.safe ≡ safe) × (plan ≡ None))
+      → PruneLaws f blobs doomed safe term (fin.insert tickets k v)
   new_one k v unsettled fresh =
       put k v
       (λ uuids plan o uns pres is. let x = fresh uuids plan is in record {
@@ -198,17 +200,20 @@ tests_pruned f w shelf l new (RemovesTests m names r) = subst (In f) (sym r.new_
 pub turn_pruned : (f : Formats) (w new : World) (shelf : List Shelved) → Law f w shelf → Turn f w new → In f new
 turn_pruned f w new shelf l (Stays m e) = subst (In f) (sym e) l.pruned
 turn_pruned f w new shelf l (Commits m k name c) = subst (In f) (sym c.new_is)
-    (again f (fin.insert w.blobs (f.names.text name) c.bytes) w.doomed w.safe w.term w.tickets (grown f w shelf l name c.bytes c.named c.absent) k c.t c.out.there (name ∷ c.t.noted) ((name, c.bytes) ∷ c.t.wrote) c.t.raised c.t.tried_latest c.t.out (λ o. o) (λ e. refl))
+    (again f (fin.insert w.blobs (f.names.text name) c.bytes) w.doomed w.safe w.term w.tickets (grown f w shelf l name c.bytes c.named c.absent) k c.t c.out.there
+    (name ∷ c.t.noted) ((name, c.bytes) ∷ c.t.wrote) c.t.raised c.t.tried_latest c.t.out (λ o. o) (λ e. refl))
 turn_pruned f w new shelf l (CommitFails m k name c) = elim c.leaves [
   | inl e ↦ subst (In f) (sym e) l.pruned
   | inr e ↦ subst (In f) (sym e.1) (grown f w shelf l name c.bytes c.named e.0)
 ]
 turn_pruned f w new shelf l (Finds m k name d) = subst (In f) (sym d.new_is) (again f w.blobs w.doomed w.safe w.term w.tickets l.pruned k d.t d.out.there (name ∷ d.t.noted) d.t.wrote d.t.raised d.t.tried_latest d.t.out (λ o. o) (λ e. refl))
-turn_pruned f w new shelf l (Raises m k d) = subst (In f) (sym d.new_is) (again f w.blobs w.doomed w.safe w.term w.tickets l.pruned k d.t d.out.there d.t.noted d.t.wrote (Some w.pending) d.t.tried_latest d.t.out (λ o. o) (λ e. absurd (true≢false (sym e ∙ d.unsettled))))
+turn_pruned f w new shelf l (Raises m k d) =
+    subst (In f) (sym d.new_is) (again f w.blobs w.doomed w.safe w.term w.tickets l.pruned k d.t d.out.there d.t.noted d.t.wrote (Some w.pending) d.t.tried_latest d.t.out (λ o. o) (λ e. absurd (true≢false (sym e ∙ d.unsettled))))
 turn_pruned f w new shelf l (Latests m k d) = subst (In f) (sym d.tries.new_is)
     (again f d.now w.doomed w.safe w.term w.tickets (put_law f w shelf l d.now d.puts).pruned k d.tries.t d.tries.out.there d.tries.t.noted d.tries.t.wrote d.tries.t.raised true d.tries.t.out (λ o. o) (λ e. refl))
 turn_pruned f w new shelf l (Fetches m k name c) = subst (In f) (sym c.new_is) (fetched f w shelf l k name m c)
-turn_pruned f w new shelf l (SettlesFinal m k n t s d) = subst (In f) (sym d.new_is) (settles f w shelf l k n t s d.may d.present w.doomed (λ name h. h) (λ uuids x work. absurd (final_other d.info d.results d.made uuids (Some x) (sym d.work ∙ work))))
+turn_pruned f w new shelf l (SettlesFinal m k n t s d) =
+    subst (In f) (sym d.new_is) (settles f w shelf l k n t s d.may d.present w.doomed (λ name h. h) (λ uuids x work. absurd (final_other d.info d.results d.made uuids (Some x) (sym d.work ∙ work))))
 turn_pruned f w new shelf l (SettlesDelete m k n t s d) = subst (In f) (sym d.new_is)
     (settles f w shelf l k n t s d.may d.present (d.names ++ w.doomed) (λ name h. Has-right d.names w.doomed name h) (λ uuids x work name h. Has-left d.names w.doomed name (d.gives name h)))
 turn_pruned f w new shelf l (Elects m d) = subst (In f) (sym d.new_is) (elected f w shelf l)

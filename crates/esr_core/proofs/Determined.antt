@@ -1,5 +1,5 @@
 -- An image determines its shelf.
-use Rattle.std.proofs.Common.{◌≡◌, ℕ, zero, suc, List, [], ◌∷◌, refl, sym, ap, ◌∙◌, subst, inl, inr}
+use Rattle.std.proofs.Common.{◌≡◌, ℕ, zero, suc, List, sym, ap, ◌∙◌, subst, inl, inr}
 use Rattle.std.proofs.lemmas.Option.{same_Some, none-some}
 use Rattle.esr_model.specs.Places.{shelf_places}
 use Rattle.esr_model.specs.Parts.{part_names}
@@ -8,16 +8,8 @@ use Rattle.esr_model.specs.Values.{Bytes, IndexRef, RootSnap, RootData, SnapInfo
 use Rattle.esr_model.specs.Shelf.{Shelved, ShelfShard}
 use Rattle.esr_model.specs.Image.{Image, AllPairs, At, IsOne, concat, FileStands, ShardStands, SnapStands, Stands, Picked}
 use Rattle.esr_model.specs.Kept.{Kept}
+use Rattle.esr_model.specs.Lists.{pairs_one}
 use Rattle.esr_core.specs.Laws.OneValue.{reads_one}
-
--- pair by pair, what stands beside a list is one list
-pub pairs_one : {A B : Type 0} (R S : A → B → Type 0) → ((x : A) (y z : B) → R x y → S x z → y ≡ z) → (xs : List A) (ys zs : List B) → AllPairs R xs ys → AllPairs S xs zs → ys ≡ zs
-pairs_one R S one [] [] [] h k = refl
-pairs_one R S one [] [] (z ∷ zs) h k = absurd k
-pairs_one R S one [] (y ∷ ys) zs h k = absurd h
-pairs_one R S one (x ∷ xs) [] zs h k = absurd h
-pairs_one R S one (x ∷ xs) (y ∷ ys) [] h k = absurd k
-pairs_one R S one (x ∷ xs) (y ∷ ys) (z ∷ zs) h k = λ i. one x y z h.0 k.0 i ∷ pairs_one R S one xs ys zs h.1 k.1 i
 
 module _ (f : Formats) (has : BlobName → Bytes → Type 0) (func : IsOne has) where
   pub file_one : (index shard : ℕ) (e : FileEntry) (a b : Bytes) → FileStands f has index shard e a → FileStands f has index shard e b → a ≡ b

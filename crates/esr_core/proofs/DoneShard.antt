@@ -76,7 +76,19 @@ module _ (f : Formats) (w : World) (k : ℕ) (r : ShardResult) (new : World) (d 
               })
           | inr was ↦
               let z_is : z ≡ a.s = sym was.is ∙ same in
-              inl (record { number = d.t.op; op = d.op; there = d.op_there; uuid_is = uuid_of; s = z; s_there = m; r = a.r; state = ap (λ (x : ShardWork). x.state) z_is ∙ a.state; index_is = ap (λ (x : ShardWork). x.ref.id) z_is ∙ a.index_is; shard_is = ap (λ (x : ShardWork). x.number) z_is ∙ a.shard_is; generation_is = a.generation_is })
+              inl (record {
+                number = d.t.op;
+                op = d.op;
+                there = d.op_there;
+                uuid_is = uuid_of;
+                s = z;
+                s_there = m;
+                r = a.r;
+                state = ap (λ (x : ShardWork). x.state) z_is ∙ a.state;
+                index_is = ap (λ (x : ShardWork). x.ref.id) z_is ∙ a.index_is;
+                shard_is = ap (λ (x : ShardWork). x.number) z_is ∙ a.shard_is;
+                generation_is = a.generation_is;
+              })
         ]
   ]
 
@@ -133,7 +145,8 @@ module _ (f : Formats) (w : World) (k : ℕ) (r : ShardResult) (new : World) (d 
   new_snap : (u : ℕ) → d.t.uuid ≡ u → (v : ShardSnapshot) × Reads (HeldIn f w) (ShardSnap r.index r.shard u) f.shard_snap v
   new_snap u e = (d.snap, subst (λ x. Reads (HeldIn f w) (ShardSnap r.index r.shard x) f.shard_snap d.snap) e d.snap_reads)
 
-  new_stands : (base : Option ℕ) → Base f (HeldIn f w) w.root w.ops r.index r.shard base → BaseBelow base r.generation → ExtendsBase f (HeldIn f w) r.index r.shard base d.held d.t.uuid d.snap.files → IndexStands f (HeldIn f w) w.root r.index r.shard r.generation
+  new_stands : (base : Option ℕ) → Base f (HeldIn f w) w.root w.ops r.index r.shard base → BaseBelow base r.generation → ExtendsBase f (HeldIn f w) r.index r.shard base d.held d.t.uuid d.snap.files
+      → IndexStands f (HeldIn f w) w.root r.index r.shard r.generation
   new_stands None h below ext =
       record {
         held = d.held;
@@ -208,7 +221,8 @@ module _ (f : Formats) (w : World) (k : ℕ) (r : ShardResult) (new : World) (d 
   carries_now : (index shard g : ℕ) → IsLive w.root ops_now index shard g → Carries f (HeldIn f w) w.root ops_now index shard g
   carries_now index shard g live = elim (live_was index shard g live) [
     | inl was ↦ carries_on index shard g (not_below index shard g was) (c.carries index shard g was)
-    | inr is ↦ subst (λ x. Carries f (HeldIn f w) w.root ops_now x shard g) (sym is.0) (subst (λ x. Carries f (HeldIn f w) w.root ops_now r.index x g) (sym is.1) (subst (λ x. Carries f (HeldIn f w) w.root ops_now r.index r.shard x) (sym is.2) new_carries))
+    | inr is ↦ subst (λ x. Carries f (HeldIn f w) w.root ops_now x shard g) (sym is.0)
+        (subst (λ x. Carries f (HeldIn f w) w.root ops_now r.index x g) (sym is.1) (subst (λ x. Carries f (HeldIn f w) w.root ops_now r.index r.shard x) (sym is.2) new_carries))
   ]
 
   -- another ticket's shard is another
@@ -246,7 +260,8 @@ module _ (f : Formats) (w : World) (k : ℕ) (r : ShardResult) (new : World) (d 
             index_is = sym i;
             shard_is = sym n;
             snap = d.snap;
-            snap_reads = subst (λ x. Reads (HeldIn f w) (ShardSnap x d.s.number d.op.uuid) f.shard_snap d.snap) (sym i) (subst (λ x. Reads (HeldIn f w) (ShardSnap r.index x d.op.uuid) f.shard_snap d.snap) (sym n) (subst (λ x. Reads (HeldIn f w) (ShardSnap r.index r.shard x) f.shard_snap d.snap) (sym uuid_is) d.snap_reads));
+            snap_reads = subst (λ x. Reads (HeldIn f w) (ShardSnap x d.s.number d.op.uuid) f.shard_snap d.snap) (sym i)
+                (subst (λ x. Reads (HeldIn f w) (ShardSnap r.index x d.op.uuid) f.shard_snap d.snap) (sym n) (subst (λ x. Reads (HeldIn f w) (ShardSnap r.index r.shard x) f.shard_snap d.snap) (sym uuid_is) d.snap_reads));
             files = subst (λ x. AreFilesOf f (HeldIn f w) d.op.source x d.s.number d.snap.files) (sym i) (subst (λ x. AreFilesOf f (HeldIn f w) d.op.source r.index x d.snap.files) (sym n) d.files);
           }
 
@@ -263,7 +278,8 @@ module _ (f : Formats) (w : World) (k : ℕ) (r : ShardResult) (new : World) (d 
   op_was : (o : ℕ) (op : Op) → fin.get ops_now o ≡ Some op → ((o ≡ d.t.op) × (op_now ≡ op)) ⊎ ((o ≢ d.t.op) × (fin.get w.ops o ≡ Some op))
   op_was o op e = get_was nat_cmp_total nat_cmp-IsAntisymmetric w.ops d.t.op op_now o op e
 
-  shard_now : (j : ℕ) (u : Ticket) → j ≢ k → fin.get w.tickets j ≡ Some u → u.out ≡ true → (index shard : ℕ) → u.work ≡ Shard index shard → ShardLaw f (HeldIn f w) w.root w.ops j u index shard → ShardLaw f (HeldIn f w) w.root ops_now j u index shard
+  shard_now : (j : ℕ) (u : Ticket) → j ≢ k → fin.get w.tickets j ≡ Some u → u.out ≡ true → (index shard : ℕ) → u.work ≡ Shard index shard → ShardLaw f (HeldIn f w) w.root w.ops j u index shard
+      → ShardLaw f (HeldIn f w) w.root ops_now j u index shard
   shard_now j u apart e out index shard is l =
       shard_law_given f (HeldIn f w) w.root w.ops d.t.op d.op d.op_there (marked k (Done r)) d.op.failed j u index shard l (λ z m state. stays z state)
       (base_now index shard (other_place j u apart e out index shard is) u.base l.base)
@@ -311,7 +327,13 @@ module _ (f : Formats) (w : World) (k : ℕ) (r : ShardResult) (new : World) (d 
                     let x_state : x.state ≡ Out j = ap (λ (y : ShardWork). y.state) z_is ∙ state in
                     let old = c.held d.t.op d.op x j d.op_there x_there x_state in
                     let apart : j ≢ k = λ q. was.not_held (x_state ∙ ap Out q) in
-                    record { t = old.t; there = get_other nat_cmp_total nat_cmp-IsAntisymmetric w.tickets k (record d.t { out = false }) j apart ∙ old.there; out = old.out; op_is = old.op_is ∙ sym h.0; work = old.work ∙ ap (λ (y : ShardWork). Shard y.ref.id y.number) z_is }
+                    record {
+                      t = old.t;
+                      there = get_other nat_cmp_total nat_cmp-IsAntisymmetric w.tickets k (record d.t { out = false }) j apart ∙ old.there;
+                      out = old.out;
+                      op_is = old.op_is ∙ sym h.0;
+                      work = old.work ∙ ap (λ (y : ShardWork). Shard y.ref.id y.number) z_is;
+                    }
               ]
           | inr h ↦
               let old = c.held o op z j h.1 m state in

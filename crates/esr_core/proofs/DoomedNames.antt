@@ -262,8 +262,8 @@ module _ (f : Formats) (has : BlobName → Bytes → Type 0) (func : IsOne has) 
   gone_other p gone kept gen = let (x, there, h) = of_indices (deleted_root root uuids shards first) root.indices p gone in h.other kept gen
 
   -- the new index of a shard that is gone, and what it has
-  new_index : (p : PrunedShard) (was : ShardFiles) (g : ℕ) → Has (gone_shards (deleted_root root uuids shards first) root.indices) p → p.kept ≡ true → files_read f read p ≡ Some was → Generation (deleted_root root uuids shards first) p.index p.number g
-      → Reads has (ShardIndex p.index p.number g) f.shard_index (surviving (left_uuids uuids (uuids_of root)) was)
+  new_index : (p : PrunedShard) (was : ShardFiles) (g : ℕ) → Has (gone_shards (deleted_root root uuids shards first) root.indices) p → p.kept ≡ true → files_read f read p ≡ Some was
+      → Generation (deleted_root root uuids shards first) p.index p.number g → Reads has (ShardIndex p.index p.number g) f.shard_index (surviving (left_uuids uuids (uuids_of root)) was)
   new_index p was g gone kept reads gen = elim (deleted_generations root one uuids shards first apart p.index p.number g gen) [
     | inl old ↦
         let same : g ≡ p.base = same_Some g p.base (sym old.1 ∙ was_of p gone) in

@@ -88,11 +88,13 @@ module _ (f : Formats) (w new : World) (shelf : List Shelved) (names : List Blob
             one_id = old.one_id;
             distinct = old.distinct;
             same_name = old.same_name;
-            done = λ s r m state. absurd (d.no_done op.uuid s.ref.id s.number r.generation (record { number = o; op = op; there = e; uuid_is = refl; s = s; s_there = m; r = r; state = state; index_is = refl; shard_is = refl; generation_is = refl }));
+            done =
+                λ s r m state. absurd (d.no_done op.uuid s.ref.id s.number r.generation (record { number = o; op = op; there = e; uuid_is = refl; s = s; s_there = m; r = r; state = state; index_is = refl; shard_is = refl; generation_is = refl }));
           };
           together = l.carried.together;
           carries = λ i k g live. elim live [
-            | inl gen ↦ root_carries f now (safely_one f w.blobs (names ++ w.doomed)) w.root shelf root_now w.ops i k g gen (λ u h a. d.no_done u i k h a) (λ held reads. (l.carried.carries i k g (inl gen)).own held (reads_kept f now (HeldIn f w) was_held _ _ _ reads))
+            | inl gen ↦ root_carries f now (safely_one f w.blobs (names ++ w.doomed)) w.root shelf root_now w.ops i k g gen (λ u h a. d.no_done u i k h a)
+                (λ held reads. (l.carried.carries i k g (inl gen)).own held (reads_kept f now (HeldIn f w) was_held _ _ _ reads))
             | inr a ↦ absurd (d.no_done a.0 i k g a.1)
           ];
           shards = λ j u e out i k is. absurd (d.no_shard j u e out i k is);

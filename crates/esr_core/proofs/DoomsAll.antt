@@ -5,7 +5,6 @@ use Rattle.std.specs.List.{list_any}
 use Rattle.std.proofs.lemmas.Bool.Decides.{eqb_tells}
 use Rattle.std.proofs.lemmas.Option.{same_Some, none-some}
 use Rattle.std.proofs.lemmas.Bool.{cond-true, cond-false, cases_Bool, and_parts}
-use Rattle.esr_core.proofs.Chosen.{filter-Has}
 use Rattle.esr_core.proofs.Drawing.{left_stays}
 use Rattle.esr_model.specs.Names.{BlobName, Root, Snap, Meta, IndexMeta, ShardSnap, ShardIndex}
 use Rattle.esr_model.specs.Values.{Bytes, Has, RootSnap, RootIndex, RootData, FileEntry, SnapList, ShardFiles, IsOneEach, Formats}
@@ -19,7 +18,7 @@ use Rattle.esr_core.specs.Pruning.{is_left, is_victim, has_none, has_named, is_t
 use Rattle.esr_core.specs.Allowed.{SettlesDeletion}
 use Rattle.esr_core.specs.Ids.{Law}
 use Rattle.esr_core.specs.Tidy.{IsInIndex, TidyRoot}
-use Rattle.esr_model.specs.Lists.{Has-map, Has-mapped, Has-left, Has-right}
+use Rattle.esr_model.specs.Lists.{Has-map, Has-mapped, Has-left, Has-right, filter-Has}
 use Rattle.esr_core.specs.Laws.OneValue.{reads_one, held_one, generation_index}
 use Rattle.esr_core.specs.Laws.DeleteRoots.{left_has, AreApart, one_found, index_was, renewed_index_was, deleted_snapshots, deleted_generations, has_names, names_has, bytes_same}
 use Rattle.esr_core.proofs.DeletedRoots.{deleted_kept, deleted_stays}
@@ -323,8 +322,8 @@ module _ (f : Formats) (has : BlobName → Bytes → Type 0) (func : IsOne has) 
       record { bytes = f.shard_index.text (surviving left w.was); there = written (ShardIndex i k now) (f.shard_index.text (surviving left w.was)) text; reads = writable r.p w.was r.there its }
 
   -- the generation of a shard in which a victim is listed goes
-  victim_goes : clean ≡ false → (i k g : ℕ) (s : RootSnap) (h : ShardFiles) (l : SnapList) → Generation root i k g → Reads has (ShardIndex i k g) f.shard_index h → Has h.snapshots l → Has root.snapshots s → l.uuid ≡ s.uuid → names_uuid uuids s.uuid ≡ true
-      → Generation new i k g → ⊥
+  victim_goes : clean ≡ false → (i k g : ℕ) (s : RootSnap) (h : ShardFiles) (l : SnapList) → Generation root i k g → Reads has (ShardIndex i k g) f.shard_index h → Has h.snapshots l → Has root.snapshots s → l.uuid ≡ s.uuid
+      → names_uuid uuids s.uuid ≡ true → Generation new i k g → ⊥
   victim_goes deletes i k g s h l gen reads listed there same named stays =
       let own : IsInIndex root i s.uuid = tidy.lists i k g gen h reads l listed s there same in
       let victim : is_touched clean uuids own.x.snapshots ≡ true = ap (λ (c : Bool). is_touched c uuids own.x.snapshots) deletes ∙ some_named uuids own.x.snapshots s.uuid own.mine named in
@@ -385,12 +384,14 @@ module _ (f : Formats) (has : BlobName → Bytes → Type 0) (func : IsOne has) 
   read_at i k g kept w = ap (files_by f) (bytes_same read (shard_at i k g kept) (bare_shard i k g) refl refl refl) ∙ w.read_as
 
   files_doomed : (i k g : ℕ) (kept : Bool) (w : WasRead i k g) → Generation root i k g → IsGoneAs (at_shard_of (index_at new.indices i) k) g kept → (name : BlobName)
-      → Has (doomed_lists (uuids_of root) (uuids_of new) (shard_at i k g kept) w.was.snapshots ++ doomed_parts (listed_lists (uuids_of new) w.was.snapshots) (shard_at i k g kept) w.was.files) name → Has (doomed_names f safe root new uuids read) name
+      → Has (doomed_lists (uuids_of root) (uuids_of new) (shard_at i k g kept) w.was.snapshots ++ doomed_parts (listed_lists (uuids_of new) w.was.snapshots) (shard_at i k g kept) w.was.files) name
+      → Has (doomed_names f safe root new uuids read) name
   files_doomed i k g kept w gen as_told name m =
       goes_doomed i k g kept gen as_told name
       (inr (subst (λ (o : Option ShardFiles). Has (doomed_files (uuids_of root) (uuids_of new) (shard_at i k g kept) o) name) (sym (read_at i k g kept w)) m))
 
-  list_goes : clean ≡ false → (i k g : ℕ) (kept : Bool) (s : RootSnap) (h : ShardFiles) (l : SnapList) → Generation root i k g → Reads has (ShardIndex i k g) f.shard_index h → Has h.snapshots l → Has root.snapshots s → l.uuid ≡ s.uuid
+  list_goes : clean ≡ false → (i k g : ℕ) (kept : Bool) (s : RootSnap) (h : ShardFiles) (l : SnapList) → Generation root i k g → Reads has (ShardIndex i k g) f.shard_index h → Has h.snapshots l → Has root.snapshots s
+      → l.uuid ≡ s.uuid
       → (Reached f has new (ShardSnap i k s.uuid) → ⊥) → (Generation new i k g → ⊥) → IsGoneAs (at_shard_of (index_at new.indices i) k) g kept → Has (doomed_names f safe root new uuids read) (ShardSnap i k s.uuid)
   list_goes deletes i k g kept s h l gen reads listed there same unreached other as_told =
       let w : WasRead i k g = gone_was_read deletes i k g gen other in

@@ -35,7 +35,8 @@ left_stays uuids (x ∷ xs) s (inr m) e = elim (cases_Bool (names_uuid uuids x.u
   | inr b ↦ subst (λ l. Has l s) (sym (cond-false _ _ _ b)) (inr (left_stays uuids xs s m e))
 ]
 
-pub draw_shard_lawful : (f : Formats) (w : World) (shelf : List Shelved) → Lawful f w shelf → (k n : ℕ) (new : World) (d : DrawShard w k n new) → ((id : ℕ) → w.next_id ≤ id → (d.t.uuid < id) × BaseBelow d.t.base id) → Lawful f new shelf
+pub draw_shard_lawful : (f : Formats) (w : World) (shelf : List Shelved) → Lawful f w shelf → (k n : ℕ) (new : World) (d : DrawShard w k n new) → ((id : ℕ) → w.next_id ≤ id → (d.t.uuid < id) × BaseBelow d.t.base id)
+    → Lawful f new shelf
 draw_shard_lawful f w shelf l k n new d above = subst (λ x. Lawful f x shelf) (sym d.new_is) (record {
   sound = record {
     rooted = record { kept = it.rooted.kept; doomed_begun = it.rooted.doomed_begun; tickets = it.rooted.tickets; single = it.rooted.single };
@@ -57,7 +58,16 @@ draw_shard_lawful f w shelf l k n new d above = subst (λ x. Lawful f x shelf) (
 
     it : Sound f (record w { tickets = fin.insert w.tickets k (record d.t { first = w.next_id; drawn = n }) }) shelf
     it = quiet f w shelf l.sound k d.t (record d.t { first = w.next_id; drawn = n }) d.out.there same
-        (record { term = old.term; raised = old.raised; shape = old.shape; clean_root = old.clean_root; listed = old.listed; clean = λ s i. old.clean s (record { is = i.is; out = i.out; unsettled = i.unsettled }); last = λ s i. old.last s (record { is = i.is; out = i.out; unsettled = i.unsettled }); swaps = λ s i. old.swaps s (record { is = i.is; out = i.out; unsettled = i.unsettled }) })
+        (record {
+          term = old.term;
+          raised = old.raised;
+          shape = old.shape;
+          clean_root = old.clean_root;
+          listed = old.listed;
+          clean = λ s i. old.clean s (record { is = i.is; out = i.out; unsettled = i.unsettled });
+          last = λ s i. old.last s (record { is = i.is; out = i.out; unsettled = i.unsettled });
+          swaps = λ s i. old.swaps s (record { is = i.is; out = i.out; unsettled = i.unsettled });
+        })
         (λ s i e. (record { is = i.is; out = i.out; unsettled = i.unsettled }, e))
 
 module _ (f : Formats) (w : World) (shelf : List Shelved) (l : Lawful f w shelf) (k n : ℕ) (new : World) (d : DrawPlan f w k n new)
@@ -89,7 +99,8 @@ module _ (f : Formats) (w : World) (shelf : List Shelved) (l : Lawful f w shelf)
   ]
     where
       -- uuids that name the same of what is listed leave the same
-      same_left : (us vs : List ℕ) (ss : List RootSnap) (xs : List Shelved) → ((s : RootSnap) → Has ss s → names_uuid us s.uuid ≡ names_uuid vs s.uuid) → AllPairs (SnapStands f (HeldIn f w) w.root) ss xs → left_shelf us xs ≡ left_shelf vs xs
+      same_left : (us vs : List ℕ) (ss : List RootSnap) (xs : List Shelved) → ((s : RootSnap) → Has ss s → names_uuid us s.uuid ≡ names_uuid vs s.uuid) → AllPairs (SnapStands f (HeldIn f w) w.root) ss xs
+          → left_shelf us xs ≡ left_shelf vs xs
       same_left us vs [] [] same h = refl
       same_left us vs [] (y ∷ ys) same h = absurd h
       same_left us vs (s ∷ ss) [] same h = absurd h
@@ -119,7 +130,11 @@ module _ (f : Formats) (w : World) (shelf : List Shelved) (l : Lawful f w shelf)
         last = λ s i p m e. absurd (none-some m (sym d.unraised ∙ e));
         shape = λ s e. subst (SwapShape f) (same_Some _ _ e) d.shape;
         swaps = λ s i c. subst (SwapLaw f (HeldIn f w) shelf d.t.noted) (same_Some _ _ i.is)
-            (record { staged = subst (RootStands f (OrOwn (HeldIn f w) d.own) d.root) (after i.unsettled (counts c)) (staged i.unsettled (counts c)); noted = λ name b m h. absurd (subst (λ ns. Has ns name) d.unnoted h); root_noted = λ m h. absurd (subst (λ ns. Has ns (Root m)) d.unnoted h) });
+            (record {
+              staged = subst (RootStands f (OrOwn (HeldIn f w) d.own) d.root) (after i.unsettled (counts c)) (staged i.unsettled (counts c));
+              noted = λ name b m h. absurd (subst (λ ns. Has ns name) d.unnoted h);
+              root_noted = λ m h. absurd (subst (λ ns. Has ns (Root m)) d.unnoted h);
+            });
         clean = λ s i c name b own. clean name b (subst (λ (x : Swap). Has x.own (name, b)) (sym (same_Some _ _ i.is)) own);
         clean_root = old.clean_root;
         listed = old.listed;
@@ -184,7 +199,13 @@ module _ (f : Formats) (w : World) (shelf : List Shelved) (l : Lawful f w shelf)
         shards = λ j u e out i x is. c.shards j u (shard_was j u e i x is) out i x is;
         one_shard = λ i j t u a b ao bo x y ai bi. c.one_shard i j t u (shard_was i t a x y ai) (shard_was j u b x y bi) ao bo x y ai bi;
         held = λ p q s j e m state. let h = c.held p q s j e m state in
-            record { t = h.t; there = other_in w.tickets k v j (λ same. differ (ap (λ (y : Ticket). y.work) (same_Some _ _ (sym d.out.there ∙ ap (fin.get w.tickets) (sym same) ∙ h.there)) ∙ h.work)) ∙ h.there; out = h.out; op_is = h.op_is; work = h.work };
+            record {
+              t = h.t;
+              there = other_in w.tickets k v j (λ same. differ (ap (λ (y : Ticket). y.work) (same_Some _ _ (sym d.out.there ∙ ap (fin.get w.tickets) (sym same) ∙ h.there)) ∙ h.work)) ∙ h.there;
+              out = h.out;
+              op_is = h.op_is;
+              work = h.work;
+            };
         finals = λ j u e out uns pres info rs made is. elim (was_in w.tickets k v j u e) [
           | inl h ↦ absurd (not_final (ap (λ (y : Ticket). y.work) h.1 ∙ is))
           | inr h ↦ c.finals j u h.1 out uns pres info rs made is

@@ -130,7 +130,8 @@ marked_leaves k q s r e = elim (marked_is k (Done q) s) [
   | inl h ↦ absurd (out_done (sym h.state ∙ e))
 ]
 
-pub all_done_back : (g : ShardWork → ShardWork) → ((s : ShardWork) (r : ShardResult) → (g s).state ≡ Done r → g s ≡ s) → (shards : List ShardWork) (results : List ShardResult) → AllDone (map g shards) results → AllDone shards results
+pub all_done_back : (g : ShardWork → ShardWork) → ((s : ShardWork) (r : ShardResult) → (g s).state ≡ Done r → g s ≡ s) → (shards : List ShardWork) (results : List ShardResult) → AllDone (map g shards) results
+    → AllDone shards results
 all_done_back g same [] [] h = tt
 all_done_back g same [] (r ∷ rs) h = absurd h
 all_done_back g same (s ∷ ss) [] h = absurd h

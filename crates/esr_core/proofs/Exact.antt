@@ -138,7 +138,8 @@ live_before f size w m s k t v there same live =
       alive = elim (cases_Bool w.deposed) [ inl dead ↦ absurd (true≢false (sym ((step_of s).alone dead).0 ∙ live.alive)) | inr alive ↦ alive ];
     }
 
-live_from : (f : Formats) (size : ℕ) (log : List Moment) (w : World) → Steps1 f size w log → (k : ℕ) (t : Ticket) → fin.get w.tickets k ≡ Some t → ((v : Ticket) → fin.get (world_from f w log).tickets k ≡ Some v → IsLive (world_from f w log) k v) → IsLive w k t
+live_from : (f : Formats) (size : ℕ) (log : List Moment) (w : World) → Steps1 f size w log → (k : ℕ) (t : Ticket) → fin.get w.tickets k ≡ Some t
+    → ((v : Ticket) → fin.get (world_from f w log).tickets k ≡ Some v → IsLive (world_from f w log) k v) → IsLive w k t
 live_from f size [] w s k t there end = end t there
 live_from f size (m ∷ log) w s k t there end =
     let one = first_step f size w m log s in
@@ -161,11 +162,13 @@ record KeptOn (w : World) (who : ℕ) (t : Ticket) (up : World) : Type 0 where
 
 data Own (f : Formats) (w : World) (who : ℕ) (t : Ticket) (i : Image) (step : Step) (reply : Reply) (up : World) : Type 0 where
   OnPlain : batch_gone step reply ≡ [] → KeptOn w who t up → i.blobs ≡ w.blobs → Own f w who t i step reply up
-  OnCommit : KeptOn w who t up → t.settled ≡ false → (name : BlobName) (bytes : Bytes) → i.blobs ≡ fin.insert w.blobs (f.names.text name) bytes → ReadsBack f.names name → IsUnlisted t ⊎ ((n : ℕ) × (name ≡ Root n) × (t.raised ≡ Some n)) → Own f w who t i step reply up
+  OnCommit : KeptOn w who t up → t.settled ≡ false → (name : BlobName) (bytes : Bytes) → i.blobs ≡ fin.insert w.blobs (f.names.text name) bytes → ReadsBack f.names name
+      → IsUnlisted t ⊎ ((n : ℕ) × (name ≡ Root n) × (t.raised ≡ Some n)) → Own f w who t i step reply up
   OnLatest : KeptOn w who t up → t.settled ≡ false → (bytes : Bytes) → i.blobs ≡ fin.insert w.blobs (f.names.text Latest) bytes → ReadsBack f.names Latest → Own f w who t i step reply up
   OnPage : (page : List BlobSize) → fin.get up.tickets who ≡ Some (listing t page) → t.settled ≡ false → IsPageOf w.blobs (last_text t.listed) page → i.blobs ≡ w.blobs → Own f w who t i step reply up
   OnSettle : (s : SettlesDeletion f w who) → s.t.term ≡ w.term → (batch_gone step reply ≡ []) → up ≡ delete_settled f w who (fin.get w.tickets who) → i.blobs ≡ w.blobs → Own f w who t i step reply up
-  OnRemoval : (names : List BlobName) → step ≡ PruneStep (RemoveDoomed names) → up ≡ w → t.settled ≡ true → Removes f w.blobs i.blobs names → (reply ≡ WasRemoved → (name : BlobName) → Has names name → fin.get i.blobs (f.names.text name) ≡ None) → Own f w who t i step reply up
+  OnRemoval : (names : List BlobName) → step ≡ PruneStep (RemoveDoomed names) → up ≡ w → t.settled ≡ true → Removes f w.blobs i.blobs names
+      → (reply ≡ WasRemoved → (name : BlobName) → Has names name → fin.get i.blobs (f.names.text name) ≡ None) → Own f w who t i step reply up
   OnOver : (v : Ticket) → fin.get up.tickets who ≡ Some v → v.out ≡ false → Own f w who t i step reply up
   OnDepose : up.deposed ≡ true → Own f w who t i step reply up
 
@@ -203,7 +206,8 @@ module _ (f : Formats) (size : ℕ) (w : World) (i : Image) where
     kept = record { v = c.t; at = c.live.there; listed = refl; whole = refl; raised = inl refl; settled = refl; same = inl refl; safe = refl; root = refl }
 
     -- its ticket given anew before its settle
-    kept_by : (g : Ticket → Ticket) → c.t.settled ≡ false → (g c.t).listed ≡ c.t.listed → (g c.t).whole ≡ c.t.whole → ((g c.t).raised ≡ c.t.raised) ⊎ (c.t.raised ≡ None) → (g c.t).settled ≡ c.t.settled → (o : Option Ticket) → o ≡ Some c.t → KeptOn w who c.t (with_given w who g o)
+    kept_by : (g : Ticket → Ticket) → c.t.settled ≡ false → (g c.t).listed ≡ c.t.listed → (g c.t).whole ≡ c.t.whole → ((g c.t).raised ≡ c.t.raised) ⊎ (c.t.raised ≡ None) → (g c.t).settled ≡ c.t.settled
+        → (o : Option Ticket) → o ≡ Some c.t → KeptOn w who c.t (with_given w who g o)
     kept_by g uns listed whole raised settled None is = absurd (none-some c.t is)
     kept_by g uns listed whole raised settled (Some u) is =
         subst (λ (x : Ticket). KeptOn w who c.t (with_given w who g (Some x))) (sym (same_Some u c.t is))
@@ -237,9 +241,11 @@ module _ (f : Formats) (size : ℕ) (w : World) (i : Image) where
     either_kept a b true p q = p
     either_kept a b false p q = q
 
-  deleting_step : (who : ℕ) (e : Cleans who) (prune : Prune) (reply : Reply) (image : Option Image) → image ≡ Some i → PruneAllows f w who prune reply image → Own f w who e.t i (PruneStep prune) reply (answered f w who (PruneStep prune) reply image)
+  deleting_step : (who : ℕ) (e : Cleans who) (prune : Prune) (reply : Reply) (image : Option Image) → image ≡ Some i → PruneAllows f w who prune reply image
+      → Own f w who e.t i (PruneStep prune) reply (answered f w who (PruneStep prune) reply image)
   deleting_step who e prune reply image told (allowed.FetchingShard k name im g found) =
-      OnPlain refl (kept_by who e (fetching name (told_blob f im name)) (own_settled who e g.t g.deleting.out g.unsettled) (read_listed (told_blob f im name)) (read_whole (told_blob f im name)) (inl (read_raised (told_blob f im name))) (read_settled (told_blob f im name)) (fin.get w.tickets who) e.live.there)
+      OnPlain refl (kept_by who e (fetching name (told_blob f im name)) (own_settled who e g.t g.deleting.out g.unsettled) (read_listed (told_blob f im name))
+      (read_whole (told_blob f im name)) (inl (read_raised (told_blob f im name))) (read_settled (told_blob f im name)) (fin.get w.tickets who) e.live.there)
       (told_at im told (λ blobs. (bytes : Bytes) × (fin.get w.blobs (f.names.text name) ≡ Some bytes) × (blobs ≡ w.blobs)) found).2
     where
       read_listed : (b : Option Bytes) → (fetching name b e.t).listed ≡ e.t.listed
@@ -260,7 +266,8 @@ module _ (f : Formats) (size : ℕ) (w : World) (i : Image) where
   deleting_step who e prune reply image told (allowed.ShardMissing k name im g gone) = OnPlain refl (kept who e) (told_at im told (λ blobs. (fin.get w.blobs (f.names.text name) ≡ None) × (blobs ≡ w.blobs)) gone).1
   deleting_step who e prune reply image told (allowed.FetchShardFails k name im g same) = OnPlain refl (kept who e) (told_at im told (λ blobs. blobs ≡ w.blobs) same)
   deleting_step who e prune reply image told (allowed.Planning k shards im p fits back same) =
-      OnPlain refl (kept_with who e _ (kept_by who e (planned f shards w.next_id) (own_settled who e p.t p.deleting.out p.unsettled) refl refl (inl refl) refl (fin.get w.tickets who) e.live.there) _ _) (told_at im told (λ blobs. blobs ≡ w.blobs) same)
+      OnPlain refl (kept_with who e _ (kept_by who e (planned f shards w.next_id) (own_settled who e p.t p.deleting.out p.unsettled) refl refl (inl refl) refl (fin.get w.tickets who) e.live.there) _ _)
+      (told_at im told (λ blobs. blobs ≡ w.blobs) same)
   deleting_step who e prune reply image told (allowed.PlanSpent k shards im p spent same) = OnPlain refl (kept who e) (told_at im told (λ blobs. blobs ≡ w.blobs) same)
   deleting_step who e prune reply image told (allowed.SettlingDelete k im s present same) = OnSettle s present refl refl (told_at im told (λ blobs. blobs ≡ w.blobs) same)
   deleting_step who e prune reply image told (allowed.SettleDeleteStale k im s apart same) = OnPlain refl (kept who e) (told_at im told (λ blobs. blobs ≡ w.blobs) same)
@@ -305,10 +312,12 @@ module _ (f : Formats) (size : ℕ) (w : World) (i : Image) where
   own_step who e (DrawStep n) reply image told unit (allowed.DrawSpent k m im d spent same) = OnPlain refl (kept who e) (told_at im told (λ blobs. blobs ≡ w.blobs) same)
   own_step who e (BeginStep name) reply image told unit (allowed.Beginning k n im c same) = OnPlain refl (kept who e) (told_at im told (λ blobs. blobs ≡ w.blobs) same)
   own_step who e (BeginStep name) reply image told unit (allowed.BeginningLatest k im c same) = OnPlain refl (kept who e) (told_at im told (λ blobs. blobs ≡ w.blobs) same)
-  own_step who e (BeginStep name) reply image told unit (allowed.BeginFails k n im c same) = OnPlain refl (either_kept who e (tried w who) w (is_latest n) (tried_kept who e (own_settled who e c.t c.out c.unsettled)) (kept who e)) (told_at im told (λ blobs. blobs ≡ w.blobs) same)
+  own_step who e (BeginStep name) reply image told unit (allowed.BeginFails k n im c same) =
+      OnPlain refl (either_kept who e (tried w who) w (is_latest n) (tried_kept who e (own_settled who e c.t c.out c.unsettled)) (kept who e)) (told_at im told (λ blobs. blobs ≡ w.blobs) same)
   own_step who e (BeginStep name) reply image told unit (allowed.BeginLatestFails k im c same) = OnPlain refl (tried_kept who e (own_settled who e c.t c.out c.unsettled)) (told_at im told (λ blobs. blobs ≡ w.blobs) same)
   own_step who e (CommitStep name) reply image told unit (allowed.Committing k n im c adds) =
-      OnCommit (kept_by who e (committing n (told_blob f im n)) (own_settled who e c.t c.out c.unsettled) (put_listed (told_blob f im n)) (put_whole (told_blob f im n)) (inl (put_raised (told_blob f im n))) (put_settled (told_blob f im n)) (fin.get w.tickets who) e.live.there)
+      OnCommit (kept_by who e (committing n (told_blob f im n)) (own_settled who e c.t c.out c.unsettled) (put_listed (told_blob f im n))
+      (put_whole (told_blob f im n)) (inl (put_raised (told_blob f im n))) (put_settled (told_blob f im n)) (fin.get w.tickets who) e.live.there)
       (own_settled who e c.t c.out c.unsettled) n c.bytes (told_at im told (Adds f w n c.bytes) adds).1 c.named.0 (root_of who e n c)
     where
       put_listed : (b : Option Bytes) → (committing n b e.t).listed ≡ e.t.listed
@@ -333,7 +342,8 @@ module _ (f : Formats) (size : ℕ) (w : World) (i : Image) where
     | inr adds ↦ OnCommit (kept who e) (own_settled who e c.t c.out c.unsettled) n c.bytes adds.1 c.named.0 (root_of who e n c)
   ]
   own_step who e LatestStep reply image told unit (allowed.Replacing k im p named put) =
-      OnLatest (tried_kept who e (own_settled who e p.t p.out p.unsettled)) (own_settled who e p.t p.out p.unsettled) (allowed.latest_text p.n) (told_at im told (λ blobs. blobs ≡ fin.insert w.blobs (f.names.text Latest) (allowed.latest_text p.n)) put) named
+      OnLatest (tried_kept who e (own_settled who e p.t p.out p.unsettled)) (own_settled who e p.t p.out p.unsettled) (allowed.latest_text p.n)
+      (told_at im told (λ blobs. blobs ≡ fin.insert w.blobs (f.names.text Latest) (allowed.latest_text p.n)) put) named
   own_step who e LatestStep reply image told unit (allowed.ReplaceFails k im p named puts) = elim (told_at im told (λ blobs. (blobs ≡ w.blobs) ⊎ (blobs ≡ fin.insert w.blobs (f.names.text Latest) (allowed.latest_text p.n))) puts) [
     | inl same ↦ OnPlain refl (tried_kept who e (own_settled who e p.t p.out p.unsettled)) same
     | inr put ↦ OnLatest (tried_kept who e (own_settled who e p.t p.out p.unsettled)) (own_settled who e p.t p.out p.unsettled) (allowed.latest_text p.n) put named
@@ -351,7 +361,8 @@ module _ (f : Formats) (size : ℕ) (w : World) (i : Image) where
       paged page (Some u) is = same_in w.tickets who (listing u page) ∙ ap (λ (x : Ticket). Some (listing x page)) (same_Some u e.t is)
   own_step who e (ListStep from) reply image told unit (allowed.ListFails k after im g same) = OnPlain refl (kept who e) (told_at im told (λ blobs. blobs ≡ w.blobs) same)
   own_step who e RaiseStep reply image told unit (allowed.Raising k n im r same) =
-      OnPlain refl (kept_with who e _ (kept_by who e (λ (x : Ticket). record x { raised = Some w.pending }) (own_settled who e r.may.t r.may.out r.may.unsettled) refl refl (inr (ap (λ (x : Ticket). x.raised) (sym (same_out who e r.may.t r.may.out)) ∙ r.may.once)) refl (fin.get w.tickets who) e.live.there) _ _)
+      OnPlain refl (kept_with who e _ (kept_by who e (λ (x : Ticket). record x { raised = Some w.pending }) (own_settled who e r.may.t r.may.out r.may.unsettled) refl refl
+      (inr (ap (λ (x : Ticket). x.raised) (sym (same_out who e r.may.t r.may.out)) ∙ r.may.once)) refl (fin.get w.tickets who) e.live.there) _ _)
       (told_at im told (λ blobs. blobs ≡ w.blobs) same)
   own_step who e RaiseStep reply image told unit (allowed.RaiseStale k im r apart same) = OnPlain refl (kept who e) (told_at im told (λ blobs. blobs ≡ w.blobs) same)
   own_step who e RaiseStep reply image told unit (allowed.RaiseSpent k im r present spent same) = OnPlain refl (kept who e) (told_at im told (λ blobs. blobs ≡ w.blobs) same)
@@ -382,7 +393,8 @@ module _ (f : Formats) (size : ℕ) (w : World) (i : Image) where
 
 -- a text that the ticket has listed, or will list; or that it wrote after its listing began
 abbrev IsCovered : Formats → Ticket → Bytes → Type 0
-IsCovered f t text = IsListed t.listed text ⊎ (((t.whole ≡ false) × IsAfter (last_text t.listed) text) ⊎ (((text ≡ f.names.text Latest) × ReadsBack f.names Latest) ⊎ ((n : ℕ) × (t.raised ≡ Some n) × (text ≡ f.names.text (Root n)) × ReadsBack f.names (Root n))))
+IsCovered f t text = IsListed t.listed text
+    ⊎ (((t.whole ≡ false) × IsAfter (last_text t.listed) text) ⊎ (((text ≡ f.names.text Latest) × ReadsBack f.names Latest) ⊎ ((n : ℕ) × (t.raised ≡ Some n) × (text ≡ f.names.text (Root n)) × ReadsBack f.names (Root n))))
 
 last_append : (xs : List BlobSize) (b : BlobSize) (rest : List BlobSize) → last_text (xs ++ b ∷ rest) ≡ last_text (b ∷ rest)
 last_append [] b rest = refl
@@ -433,7 +445,8 @@ IsLeft f w k t s text =
 
 -- the indices of the root's shards list its snapshots alone
 abbrev IsListedAlone : Formats → Blobs → RootData → Type 0
-IsListedAlone f blobs root = (i j g : ℕ) → Generation root i j g → (h : ShardFiles) → Reads (At f blobs) (ShardIndex i j g) f.shard_index h → (x : SnapList) → Has h.snapshots x → (z : RootSnap) × Has root.snapshots z × (z.uuid ≡ x.uuid)
+IsListedAlone f blobs root = (i j g : ℕ) → Generation root i j g → (h : ShardFiles) → Reads (At f blobs) (ShardIndex i j g) f.shard_index h → (x : SnapList) → Has h.snapshots x
+    → (z : RootSnap) × Has root.snapshots z × (z.uuid ≡ x.uuid)
 
 record HasSettled (f : Formats) (w : World) (k : ℕ) (t : Ticket) : Type 0 where
   settled : t.settled ≡ true
@@ -453,7 +466,8 @@ data Stage (f : Formats) (w : World) (k : ℕ) (t : Ticket) : Type 0 where
   IsRemoving : HasSettled f w k t → Stage f w k t
 
 -- the blobs of each shard index that the root has are as they were, where no text is new
-held_on : (f : Formats) (w new : World) (shelf : List Shelved) → Law f new shelf → (root : RootData) (read : List (BlobName × Bytes)) → new.root ≡ root → ((text bytes : Bytes) → fin.get new.blobs text ≡ Some bytes → fin.get w.blobs text ≡ Some bytes) → IsHeldNow f (At f w.blobs) root read → IsHeldNow f (At f new.blobs) root read
+held_on : (f : Formats) (w new : World) (shelf : List Shelved) → Law f new shelf → (root : RootData) (read : List (BlobName × Bytes)) → new.root ≡ root
+    → ((text bytes : Bytes) → fin.get new.blobs text ≡ Some bytes → fin.get w.blobs text ≡ Some bytes) → IsHeldNow f (At f w.blobs) root read → IsHeldNow f (At f new.blobs) root read
 held_on f w new shelf l root read same back held i k g gen =
     let (was, found, reads) = held i k g gen in
     let there = (l.lawful.sound.carried.carries i k g (inl (subst (λ (r : RootData). Generation r i k g) (sym same) gen))).stands.held_reads in
@@ -461,7 +475,8 @@ held_on f w new shelf l root read same back held i k g gen =
     (was, found, record { bytes = reads.bytes; there = (there.there.0.0 ∙ ap (λ (b : Bytes). Some b) one, there.there.0.1); reads = reads.reads })
 
 -- a step that adds no text and leaves the ticket keeps what is left
-settled_on : (f : Formats) (w new : World) (shelf : List Shelved) → Law f new shelf → (k : ℕ) (t : Ticket) → HasSettled f w k t → new.safe ≡ w.safe → new.root ≡ w.root → ((text bytes : Bytes) → fin.get new.blobs text ≡ Some bytes → fin.get w.blobs text ≡ Some bytes)
+settled_on : (f : Formats) (w new : World) (shelf : List Shelved) → Law f new shelf → (k : ℕ) (t : Ticket) → HasSettled f w k t → new.safe ≡ w.safe → new.root ≡ w.root
+    → ((text bytes : Bytes) → fin.get new.blobs text ≡ Some bytes → fin.get w.blobs text ≡ Some bytes)
     → ((text bytes : Bytes) (name : BlobName) → fin.get new.blobs text ≡ Some bytes → f.names.text name ≡ text → Has (gone_names (entries_by new.entries k)) name → Has (gone_names (entries_by w.entries k)) name) → HasSettled f new k t
 settled_on f w new shelf l k t h safe root back gone =
     record {
@@ -478,7 +493,8 @@ settled_on f w new shelf l k t h safe root back gone =
       left = λ text bytes there. let named = h.left text bytes (back text bytes there) in (named.0, named.1, named.2, still text bytes named.0 there named.1 named.3);
     }
   where
-    still : (text bytes : Bytes) (name : BlobName) → fin.get new.blobs text ≡ Some bytes → f.names.text name ≡ text → (reaches f t.raised h.s.root (h.s.own ++ t.read) name ≡ true) ⊎ (Has (dooms f t) name × (Has (gone_names (entries_by w.entries k)) name → ⊥))
+    still : (text bytes : Bytes) (name : BlobName) → fin.get new.blobs text ≡ Some bytes → f.names.text name ≡ text
+        → (reaches f t.raised h.s.root (h.s.own ++ t.read) name ≡ true) ⊎ (Has (dooms f t) name × (Has (gone_names (entries_by w.entries k)) name → ⊥))
         → (reaches f t.raised h.s.root (h.s.own ++ t.read) name ≡ true) ⊎ (Has (dooms f t) name × (Has (gone_names (entries_by new.entries k)) name → ⊥))
     still text bytes name there is (inl reached) = inl reached
     still text bytes name there is (inr (doomed, none)) = inr (doomed, λ g. none (gone text bytes name there is g))
@@ -488,7 +504,8 @@ settled_on f w new shelf l k t h safe root back gone =
 -- what a ticket that has settled makes of what it listed
 settles : (f : Formats) (w new : World) (shelf : List Shelved) → Law f w shelf → (k : ℕ) (s : SettlesDeletion f w k) (t : Ticket) → s.t ≡ t → s.t.term ≡ w.term → t.clean ≡ true → RemovedLate w k
     → ((text bytes : Bytes) → fin.get w.blobs text ≡ Some bytes → IsCovered f t text)
-    → new.safe ≡ suc s.n → new.root ≡ s.s.root → new.blobs ≡ w.blobs → ((name : BlobName) → Has (gone_names (entries_by new.entries k)) name → Has (gone_names (entries_by w.entries k)) name) → HasSettled f new k (record t { settled = true })
+    → new.safe ≡ suc s.n → new.root ≡ s.s.root → new.blobs ≡ w.blobs → ((name : BlobName) → Has (gone_names (entries_by new.entries k)) name → Has (gone_names (entries_by w.entries k)) name)
+    → HasSettled f new k (record t { settled = true })
 settles f w new shelf l k s t mine present clean late covered safe root same_blobs same_gone =
     record {
       settled = refl;
@@ -545,7 +562,11 @@ settles f w new shelf l k s t mine present clean late covered safe root same_blo
               reads,
               elim (cases_Bool (reaches f t.raised s.s.root (s.s.own ++ t.read) name)) [
                 | inl reached ↦ inl reached
-                | inr not ↦ inr (subst (λ (ns : List BlobName). Has ns name) (sym (cleans_is f (record t { settled = true }) s.uuids s.s (ap (λ (x : Ticket). x.work) (sym mine) ∙ s.deleting.work) clean)) (cleaned_has f t.raised s.s.root (s.s.own ++ t.read) t.listed name (listed_has f t.listed b name listed (ap f.names.read (is ∙ sym text_is) ∙ reads)) not), none_gone name)
+                | inr not ↦ inr (
+                  subst (λ (ns : List BlobName). Has ns name) (sym (cleans_is f (record t { settled = true }) s.uuids s.s (ap (λ (x : Ticket). x.work) (sym mine) ∙ s.deleting.work) clean))
+                      (cleaned_has f t.raised s.s.root (s.s.own ++ t.read) t.listed name (listed_has f t.listed b name listed (ap f.names.read (is ∙ sym text_is) ∙ reads)) not),
+                  none_gone name,
+                )
               ],
             )
         by (inr (inl (unended, behind))) = absurd (true≢false (sym (s.listed its_clean) ∙ ap (λ (x : Ticket). x.whole) mine ∙ unended))
@@ -555,10 +576,12 @@ settles f w new shelf l k s t mine present clean late covered safe root same_blo
 -- ---- entries
 
 -- what is gone after a step was so before, or is of this step
-gone_or : (f : Formats) (w : World) (m : Moment) (k : ℕ) (name : BlobName) → Has (gone_names (entries_by (after f w m).entries k)) name → ((m.entry.who ≡ k) × Has (batch_gone m.entry.step m.entry.reply) name) ⊎ Has (gone_names (entries_by w.entries k)) name
+gone_or : (f : Formats) (w : World) (m : Moment) (k : ℕ) (name : BlobName) → Has (gone_names (entries_by (after f w m).entries k)) name
+    → ((m.entry.who ≡ k) × Has (batch_gone m.entry.step m.entry.reply) name) ⊎ Has (gone_names (entries_by w.entries k)) name
 gone_or f w m k name h = counted (is_counted m.entry.reply) h
   where
-    anew : (b : Bool) → m.entry.who ≡ k → Has (gone_names (if b then [] else m.entry ∷ entries_by w.entries k)) name → ((m.entry.who ≡ k) × Has (batch_gone m.entry.step m.entry.reply) name) ⊎ Has (gone_names (entries_by w.entries k)) name
+    anew : (b : Bool) → m.entry.who ≡ k → Has (gone_names (if b then [] else m.entry ∷ entries_by w.entries k)) name
+        → ((m.entry.who ≡ k) × Has (batch_gone m.entry.step m.entry.reply) name) ⊎ Has (gone_names (entries_by w.entries k)) name
     anew true mine h = absurd h
     anew false mine h = elim (Has-either (batch_gone m.entry.step m.entry.reply) (gone_names (entries_by w.entries k)) name h) [ inl own ↦ inl (mine, own) | inr before ↦ inr before ]
 
@@ -569,7 +592,8 @@ gone_or f w m k name h = counted (is_counted m.entry.reply) h
       | inr other ↦ inr (subst (λ (b : Bool). Has (gone_names (if b then (if begins_anew k m.entry.step then [] else m.entry ∷ entries_by w.entries k) else entries_by w.entries k)) name) other.0 h)
     ]
 
-removal_settled : {f : Formats} {size : ℕ} {w : World} {who : ℕ} {names : List BlobName} {image : Option Image} → Allows f size w who (PruneStep (RemoveDoomed names)) WasRemoved image → (t : Ticket) × (fin.get w.tickets who ≡ Some t) × (t.settled ≡ true)
+removal_settled : {f : Formats} {size : ℕ} {w : World} {who : ℕ} {names : List BlobName} {image : Option Image} → Allows f size w who (PruneStep (RemoveDoomed names)) WasRemoved image
+    → (t : Ticket) × (fin.get w.tickets who ≡ Some t) × (t.settled ≡ true)
 removal_settled (allowed.Pruning k prune rep im (allowed.RemovingDoomed j names image r removed)) = (r.t, r.deleting.out.there, r.settled)
 
 not_refused : (refusal : Refusal) → WasRemoved ≡ Refused refusal → ⊥
@@ -587,7 +611,8 @@ late_step f size w m s k late e h gone = counted (is_counted m.entry.reply) h
         let replied : m.entry.reply ≡ WasRemoved = ap (λ (x : Entry). x.reply) is ∙ reply in
         elim s.legal.answered [
           | inl alive ↦
-              let a : Allows f size w m.entry.who (PruneStep (RemoveDoomed names)) WasRemoved m.image = subst (λ (x : Reply). Allows f size w m.entry.who (PruneStep (RemoveDoomed names)) x m.image) replied (subst (λ (x : Step). Allows f size w m.entry.who x m.entry.reply m.image) (ap (λ (x : Entry). x.step) is ∙ step) alive.1) in
+              let a : Allows f size w m.entry.who (PruneStep (RemoveDoomed names)) WasRemoved m.image =
+              subst (λ (x : Reply). Allows f size w m.entry.who (PruneStep (RemoveDoomed names)) x m.image) replied (subst (λ (x : Step). Allows f size w m.entry.who x m.entry.reply m.image) (ap (λ (x : Entry). x.step) is ∙ step) alive.1) in
               let (t, there, settled) = removal_settled a in
               before t (ap (fin.get w.tickets) (sym mine) ∙ there) settled
           | inr dead ↦ absurd (not_refused dead.refusal (sym replied ∙ dead.refused))
@@ -636,7 +661,8 @@ module _ (f : Formats) (size : ℕ) (w : World) (m : Moment) (s : Step1 f size w
   other_step apart no_unit stage =
       let frame = step_frame f w m in
       let roots : ((after f w m).safe ≡ w.safe) × ((after f w m).root ≡ w.root) = elim frame.root [ inl same ↦ same | inr settle ↦ absurd (no_unit (settle_unit m.entry.step settle)) ] in
-      stage_same (frame.others k apart (fresh_ticket s.here k t live.there) ∙ live.there) roots.0 roots.1 (λ text bytes at. back (blobs_change f size w m s.image s.told s.legal) text bytes (ap (λ (b : Blobs). fin.get b text) (sym now_blobs) ∙ at))
+      stage_same (frame.others k apart (fresh_ticket s.here k t live.there) ∙ live.there) roots.0 roots.1
+      (λ text bytes at. back (blobs_change f size w m s.image s.told s.legal) text bytes (ap (λ (b : Blobs). fin.get b text) (sym now_blobs) ∙ at))
       (λ text bytes name at is h. subst (λ (es : List Entry). Has (gone_names es) name) (entries_apart w.entries m.entry k apart) h) stage
     where
       back : BlobsChange f w m.entry.step s.image.blobs → (text bytes : Bytes) → fin.get s.image.blobs text ≡ Some bytes → fin.get w.blobs text ≡ Some bytes
@@ -654,7 +680,8 @@ module _ (f : Formats) (size : ℕ) (w : World) (m : Moment) (s : Step1 f size w
     | inr before ↦ covered_kept f t v listed whole raised text (covered text b before.1)
   ]
 
-  unit_step : (v : Ticket) → fin.get (after f w m).tickets k ≡ Some v → IsLive (after f w m) k v → m.entry.who ≡ k → Own f w m.entry.who t s.image m.entry.step m.entry.reply (answered f w m.entry.who m.entry.step m.entry.reply m.image) → Stage f w k t → Stage f (after f w m) k v
+  unit_step : (v : Ticket) → fin.get (after f w m).tickets k ≡ Some v → IsLive (after f w m) k v → m.entry.who ≡ k → Own f w m.entry.who t s.image m.entry.step m.entry.reply (answered f w m.entry.who m.entry.step m.entry.reply m.image)
+      → Stage f w k t → Stage f (after f w m) k v
   unit_step v there after_live mine (OnPlain none h same) (IsListing uns covered) =
       let is : h.v ≡ v = same_Some h.v v (sym h.at ∙ ap (fin.get (after f w m).tickets) mine ∙ there) in
       subst (Stage f (after f w m) k) is
@@ -689,7 +716,8 @@ module _ (f : Formats) (size : ℕ) (w : World) (m : Moment) (s : Step1 f size w
       settled (d, present, up) =
           let one : d.t ≡ t = same_Some d.t t (sym d.may.out.there ∙ live.there) in
           let plain = up ∙ delete_settled_plain f w k d.n d.t d.s d.may in
-          let is : record t { settled = true } ≡ v = same_Some (record t { settled = true }) v (sym (ap (λ (x : World). fin.get x.tickets k) plain ∙ same_in w.tickets k (record d.t { settled = true }) ∙ ap (λ (x : Ticket). Some (record x { settled = true })) one) ∙ there) in
+          let is : record t { settled = true } ≡ v =
+          same_Some (record t { settled = true }) v (sym (ap (λ (x : World). fin.get x.tickets k) plain ∙ same_in w.tickets k (record d.t { settled = true }) ∙ ap (λ (x : Ticket). Some (record x { settled = true })) one) ∙ there) in
           subst (Stage f (after f w m) k) is
           (IsRemoving (settles f w (after f w m) s.here.shelf s.here.law k d t one present clean late covered (ap (λ (x : World). x.safe) plain) (ap (λ (x : World). x.root) plain) (now_blobs ∙ same) (no_gone none)))
   unit_step v there after_live mine (OnSettle d present none up same) (IsRemoving r) =
@@ -700,7 +728,8 @@ module _ (f : Formats) (size : ℕ) (w : World) (m : Moment) (s : Step1 f size w
       subst (Stage f (after f w m) k) (same_Some t v (sym at ∙ there))
       (stage_same at (ap (λ (x : World). x.safe) up) (ap (λ (x : World). x.root) up) (λ text bytes got. removes.left text bytes (ap (λ (b : Blobs). fin.get b text) (sym now_blobs) ∙ got)) its_gone (IsRemoving r))
     where
-      its_gone : (text bytes : Bytes) (name : BlobName) → fin.get (after f w m).blobs text ≡ Some bytes → f.names.text name ≡ text → Has (gone_names (entries_by (after f w m).entries k)) name → Has (gone_names (entries_by w.entries k)) name
+      its_gone : (text bytes : Bytes) (name : BlobName) → fin.get (after f w m).blobs text ≡ Some bytes → f.names.text name ≡ text → Has (gone_names (entries_by (after f w m).entries k)) name
+          → Has (gone_names (entries_by w.entries k)) name
       its_gone text bytes name got text_is h = elim (gone_or f w m k name h) [
         | inl own ↦
             let (ns, step, reply) = gone_is m.entry.step m.entry.reply name own.1 in
@@ -833,7 +862,8 @@ module _ (f : Formats) (size : ℕ) (w : World) (m : Moment) (s : Step1 f size w
   dropping : Dropping
   dropping = elim s.legal.answered [
     | inl alive ↦
-        let a = drops_by (subst (λ (x : Option Image). Allows f size w k DroppedStep HasEnded x) s.told (subst (λ (x : Reply). Allows f size w k DroppedStep x m.image) last.reply (subst (λ (x : Step). Allows f size w k x m.entry.reply m.image) last.step (subst (λ (x : ℕ). Allows f size w x m.entry.step m.entry.reply m.image) last.who alive.1)))) in
+        let a = drops_by (subst (λ (x : Option Image). Allows f size w k DroppedStep HasEnded x) s.told (subst (λ (x : Reply). Allows f size w k DroppedStep x m.image) last.reply
+        (subst (λ (x : Step). Allows f size w k x m.entry.reply m.image) last.step (subst (λ (x : ℕ). Allows f size w x m.entry.step m.entry.reply m.image) last.who alive.1)))) in
         record { alive = alive.0; d = a.0; same = a.1 }
     | inr dead ↦ absurd (not_ended dead.refusal (sym last.reply ∙ dead.refused))
   ]
@@ -862,7 +892,8 @@ module _ (f : Formats) (size : ℕ) (w : World) (m : Moment) (s : Step1 f size w
       reached r name e = elim (reached_by f (At f w.blobs) r.s.root h.t.raised (r.s.own ++ h.t.read) r.held name e) [
         | inl latest ↦ inl latest
         | inr (inl root) ↦ inr (r.n, r.safe, inl (root.2 ∙ ap Root (same_Some root.0 r.n (sym root.1 ∙ r.raised))))
-        | inr (inr reach) ↦ inr (r.n, r.safe, inr (w.root, root_reads (subst (λ (n : ℕ). RootIs f (HeldIn f w) n w.root) r.safe s.here.law.lawful.sound.carried.root_is), subst (λ (x : RootData). Reached f (At f w.blobs) x name) (sym r.root) reach))
+        | inr (inr reach) ↦
+            inr (r.n, r.safe, inr (w.root, root_reads (subst (λ (n : ℕ). RootIs f (HeldIn f w) n w.root) r.safe s.here.law.lawful.sound.carried.root_is), subst (λ (x : RootData). Reached f (At f w.blobs) x name) (sym r.root) reach))
       ]
         where
           root_reads : Reads (HeldIn f w) (Root r.n) f.root w.root → Reads (At f w.blobs) (Root r.n) f.root w.root
@@ -894,7 +925,8 @@ module _ (f : Formats) (size : ℕ) (w : World) (m : Moment) (s : Step1 f size w
 -- ---- and afterwards
 
 module _ (f : Formats) (size : ℕ) (w : World) where
-  settle_or : (who : ℕ) (step : Step) (reply : Reply) (image : Option Image) → is_settle step ≡ true → Allows f size w who step reply image → (((answered f w who step reply image).safe ≡ w.safe) × ((answered f w who step reply image).root ≡ w.root)) ⊎ ((n : ℕ) × (t : Ticket) × (s : Swap) × MaySettle f w who n t s × (t.term ≡ w.term))
+  settle_or : (who : ℕ) (step : Step) (reply : Reply) (image : Option Image) → is_settle step ≡ true → Allows f size w who step reply image
+      → (((answered f w who step reply image).safe ≡ w.safe) × ((answered f w who step reply image).root ≡ w.root)) ⊎ ((n : ℕ) × (t : Ticket) × (s : Swap) × MaySettle f w who n t s × (t.term ≡ w.term))
   settle_or who SettleStep reply image e (allowed.Settling k im s same) = inr (s.n, s.t, s.s, s.may, s.present)
   settle_or who SettleStep reply image e (allowed.SettleStale k n t s im may apart same) = inl (refl, refl)
   settle_or who SettleStep reply image e (allowed.SettleFails k im s same) = inr (s.n, s.t, s.s, s.may, s.present)
@@ -971,7 +1003,8 @@ module _ (f : Formats) (size : ℕ) (w : World) where
           let found = alone text bytes (ap (λ (b : Blobs). fin.get b text) (sym blobs) ∙ there) in
           (found.0, found.1, found.2, elim found.3 [ inl latest ↦ inl latest | inr reach ↦ inr (in_reach f w (after f w m) same.0 blobs found.0 reach) ])
 
-rest_holds : (f : Formats) (size : ℕ) (log : List Moment) (w : World) → Steps1 f size w log → NoneOf ChangesBlobs log → HoldsReachAlone f w × ListsListedAlone f w → HoldsReachAlone f (world_from f w log) × ListsListedAlone f (world_from f w log)
+rest_holds : (f : Formats) (size : ℕ) (log : List Moment) (w : World) → Steps1 f size w log → NoneOf ChangesBlobs log → HoldsReachAlone f w × ListsListedAlone f w
+    → HoldsReachAlone f (world_from f w log) × ListsListedAlone f (world_from f w log)
 rest_holds f size [] w s none alone = alone
 rest_holds f size (m ∷ log) w s none alone = rest_holds f size log (after f w m) (later_steps f size w m log s) none.1 (rest_step f size w m (first_step f size w m log s) none.0 alone)
 
@@ -1001,9 +1034,10 @@ none_listed (x ∷ y ∷ xs) e = absurd (no_none y xs e)
     no_none y [] e = none-some y.text e
     no_none y (z ∷ xs) e = no_none z xs e
 
-pub reach_alone : (f : Formats) (size : ℕ) (w : World) (shelf : List Shelved) (before between rest : List Moment) (first last : Moment) (k : ℕ) → Law f w shelf → Tracked w → ReadTracked w → w.entries ≡ [] → ((t : Ticket) → fin.get w.tickets k ≡ Some t → ⊥)
-    → IsLegal f size w (before ++ first ∷ (between ++ last ∷ rest)) → AreTold (before ++ first ∷ (between ++ last ∷ rest))
-    → IsFirstPage first k → IsLastDrop last k → NoneOf IsTestCommit between → NoneOf ChangesBlobs rest → HoldsReachAlone f (world_from f w (before ++ first ∷ (between ++ last ∷ rest))) × ListsListedAlone f (world_from f w (before ++ first ∷ (between ++ last ∷ rest)))
+pub reach_alone : (f : Formats) (size : ℕ) (w : World) (shelf : List Shelved) (before between rest : List Moment) (first last : Moment) (k : ℕ) → Law f w shelf → Tracked w → ReadTracked w → w.entries ≡ []
+    → ((t : Ticket) → fin.get w.tickets k ≡ Some t → ⊥) → IsLegal f size w (before ++ first ∷ (between ++ last ∷ rest)) → AreTold (before ++ first ∷ (between ++ last ∷ rest))
+    → IsFirstPage first k → IsLastDrop last k → NoneOf IsTestCommit between → NoneOf ChangesBlobs rest
+    → HoldsReachAlone f (world_from f w (before ++ first ∷ (between ++ last ∷ rest))) × ListsListedAlone f (world_from f w (before ++ first ∷ (between ++ last ∷ rest)))
 reach_alone f size w shelf before between rest first last k l tracked reads no_entry no_ticket legal told page drop no_test no_change =
     let all : Steps1 f size w (before ++ first ∷ (between ++ last ∷ rest)) = (record { shelf = shelf; law = l; tracked = tracked; reads = reads }, legal, told) in
     let a = steps_parts f size before (first ∷ (between ++ last ∷ rest)) w all in
@@ -1025,7 +1059,8 @@ reach_alone f size w shelf before between rest first last k l tracked reads no_e
 
     page_by : (w : World) → Step1 f size w first → ListsPage w k None
     page_by w s = elim s.legal.answered [
-      | inl alive ↦ lists_by (subst (λ (x : Reply). Allows f size w k (ListStep None) x first.image) page.reply (subst (λ (x : Step). Allows f size w k x first.entry.reply first.image) page.step (subst (λ (x : ℕ). Allows f size w x first.entry.step first.entry.reply first.image) page.who alive.1)))
+      | inl alive ↦ lists_by (subst (λ (x : Reply). Allows f size w k (ListStep None) x first.image) page.reply
+          (subst (λ (x : Step). Allows f size w k x first.entry.reply first.image) page.step (subst (λ (x : ℕ). Allows f size w x first.entry.step first.entry.reply first.image) page.who alive.1)))
       | inr dead ↦ absurd (not_listed page.page dead.refusal (sym page.reply ∙ dead.refused))
     ]
 
@@ -1036,7 +1071,8 @@ reach_alone f size w shelf before between rest first last k l tracked reads no_e
 -- from an opened image on
 pub opened_reach_alone : (f : Formats) (size : ℕ) (image : Image) (shelf : List Shelved) (w : World) (before between rest : List Moment) (first last : Moment) (k : ℕ) → Kept f image shelf → Opened f image w → Tracked w
     → IsLegal f size w (before ++ first ∷ (between ++ last ∷ rest)) → AreTold (before ++ first ∷ (between ++ last ∷ rest))
-    → IsFirstPage first k → IsLastDrop last k → NoneOf IsTestCommit between → NoneOf ChangesBlobs rest → HoldsReachAlone f (world_from f w (before ++ first ∷ (between ++ last ∷ rest))) × ListsListedAlone f (world_from f w (before ++ first ∷ (between ++ last ∷ rest)))
+    → IsFirstPage first k → IsLastDrop last k → NoneOf IsTestCommit between → NoneOf ChangesBlobs rest
+    → HoldsReachAlone f (world_from f w (before ++ first ∷ (between ++ last ∷ rest))) × ListsListedAlone f (world_from f w (before ++ first ∷ (between ++ last ∷ rest)))
 opened_reach_alone f size image shelf w before between rest first last k is_kept opens tracked =
     reach_alone f size w shelf before between rest first last k (opening_law f image shelf w is_kept opens) tracked (by w opens) (none w opens) (λ t at. no_ticket w opens t at)
   where

@@ -44,13 +44,20 @@ others_new (x ∷ entries) step h e (inl same) r = h.0 (subst (λ (y : Entry). R
 others_new (x ∷ entries) step h e (inr m) r = others_new entries step h.1 e m r
 
 -- a step more at the beginning
-goes : (f : Formats) (size : ℕ) (w next : World) (who : ℕ) (step : Step) (reply : Reply) (cs : List Command) → ((p : ℕ) (q : Op) → fin.get w.ops p ≡ Some q → q.aborted ≡ None) → AreOthers (entries_by w.entries who) step → w.deposed ≡ false → Allows f size w who step reply (Some (image_of f next)) → after f w (shown f who step reply next) ≡ next
+goes : (f : Formats) (size : ℕ) (w next : World) (who : ℕ) (step : Step) (reply : Reply) (cs : List Command) → ((p : ℕ) (q : Op) → fin.get w.ops p ≡ Some q → q.aborted ≡ None) → AreOthers (entries_by w.entries who) step
+    → w.deposed ≡ false → Allows f size w who step reply (Some (image_of f next)) → after f w (shown f who step reply next) ≡ next
     → ReadsBack f.cluster (record_of next) → (mine : List Command) → commands_at f 1 w who step reply ≡ mine → Runs f size next cs → Runs f size w (mine ++ cs)
 goes f size w next who step reply cs clear new alive allows e back mine is rest =
     record {
       log = shown f who step reply next ∷ rest.log;
       legal = (
-        record { answered = inl (alive, allows); aborted = λ by d a. absurd (none-some by (sym (clear a.t.op a.op a.op_there) ∙ a.by_is)); once = λ d. others_new (entries_by w.entries who) step new; record_back = subst (λ x. ReadsBack f.cluster (record_of x)) (sym e) back; text = λ image same. text image same },
+        record {
+          answered = inl (alive, allows);
+          aborted = λ by d a. absurd (none-some by (sym (clear a.t.op a.op a.op_there) ∙ a.by_is));
+          once = λ d. others_new (entries_by w.entries who) step new;
+          record_back = subst (λ x. ReadsBack f.cluster (record_of x)) (sym e) back;
+          text = λ image same. text image same;
+        },
         subst (λ x. IsLegal f size x rest.log) (sym e) rest.legal,
       );
       told = ((image_of f next, refl), rest.told);
@@ -206,10 +213,28 @@ module _ (f : Formats) (size : ℕ) (name : Bytes) (moment : ℕ) (can : CanWrit
   not_shard i n e = cc
 
   abbrev commit3 : Commits f size w2 1 (Snap uuid)
-  commit3 = record { t = t2; out = record { there = got fin.empty t2; out = refl }; unsettled = refl; bytes = snap_text; named = can.snap; may = inl (record { root = finalized_root no_root (info_of op []) []; own = metadata f (info_of op []); commands = Create (shelved_of f fin.empty op) ∷ [] }, refl, inl (inl refl)); numbered = λ i n e. absurd (not_shard i n e); late = λ c. absurd (true≢false (sym c)) }
+  commit3 = record {
+    t = t2;
+    out = record { there = got fin.empty t2; out = refl };
+    unsettled = refl;
+    bytes = snap_text;
+    named = can.snap;
+    may = inl (record { root = finalized_root no_root (info_of op []) []; own = metadata f (info_of op []); commands = Create (shelved_of f fin.empty op) ∷ [] }, refl, inl (inl refl));
+    numbered = λ i n e. absurd (not_shard i n e);
+    late = λ c. absurd (true≢false (sym c));
+  }
 
   abbrev commit4 : Commits f size w3 1 (Meta uuid)
-  commit4 = record { t = t3; out = record { there = got w2.tickets t3; out = refl }; unsettled = refl; bytes = meta_text; named = can.meta; may = inl (record { root = finalized_root no_root (info_of op []) []; own = metadata f (info_of op []); commands = Create (shelved_of f fin.empty op) ∷ [] }, refl, inl (inr (inl refl))); numbered = λ i n e. absurd (not_shard i n e); late = λ c. absurd (true≢false (sym c)) }
+  commit4 = record {
+    t = t3;
+    out = record { there = got w2.tickets t3; out = refl };
+    unsettled = refl;
+    bytes = meta_text;
+    named = can.meta;
+    may = inl (record { root = finalized_root no_root (info_of op []) []; own = metadata f (info_of op []); commands = Create (shelved_of f fin.empty op) ∷ [] }, refl, inl (inr (inl refl)));
+    numbered = λ i n e. absurd (not_shard i n e);
+    late = λ c. absurd (true≢false (sym c));
+  }
 
   abbrev commit6 : Commits f size w5 1 (Root 0)
   commit6 =
@@ -275,7 +300,14 @@ module _ (f : Formats) (size : ℕ) (name : Bytes) (moment : ℕ) (can : CanWrit
   step5 : Runs f size w4 (Create (shelved_of f fin.empty op) ∷ [])
   step5 = goes f size w4 w5 1 RaiseStep (RaisedTo 0) _ clear (λ r. r, (λ r. r, tt)) refl
       (allowed.Raising 1 0 _ (record {
-        may = record { t = t4; out = record { there = got w3.tickets t4; out = refl }; s = record { root = finalized_root no_root (info_of op []) []; own = metadata f (info_of op []); commands = Create (shelved_of f fin.empty op) ∷ [] }; is = refl; unsettled = refl; once = refl };
+        may = record {
+          t = t4;
+          out = record { there = got w3.tickets t4; out = refl };
+          s = record { root = finalized_root no_root (info_of op []) []; own = metadata f (info_of op []); commands = Create (shelved_of f fin.empty op) ∷ [] };
+          is = refl;
+          unsettled = refl;
+          once = refl;
+        };
         present = refl;
         n_is = refl;
         room = lit< tt;

@@ -128,7 +128,8 @@ module _ (f : Formats) (blobs : Blobs) (ops : Ops) (tickets : Tickets) (x : Text
       }
 
   -- ops that were, which give the same once they are done
-  pub texted_ops : (now : Ops) → ((o : ℕ) (op : Op) → fin.get now o ≡ Some op → (p : ℕ) × (old : Op) × (fin.get ops p ≡ Some old) × (old.uuid ≡ op.uuid) × ((rs : List ShardResult) → AllDone old.shards rs → AllDone op.shards rs × (info_of op rs ≡ info_of old rs))) → Texted f blobs now tickets
+  pub texted_ops : (now : Ops) → ((o : ℕ) (op : Op) → fin.get now o ≡ Some op
+      → (p : ℕ) × (old : Op) × (fin.get ops p ≡ Some old) × (old.uuid ≡ op.uuid) × ((rs : List ShardResult) → AllDone old.shards rs → AllDone op.shards rs × (info_of op rs ≡ info_of old rs))) → Texted f blobs now tickets
   texted_ops now back =
       record {
         swaps = x.swaps;
@@ -176,7 +177,8 @@ module _ (f : Formats) (w : World) (shelf : List Shelved) (l : Law f w shelf) (x
       given_as n b e same = subst (λ q. Has (metadata f info) (q, b)) (sym e) (subst (λ c. Has (metadata f info) (name, c)) same own)
 
   -- a blob that is no metadata
-  plain_committed : (name : BlobName) (bytes : Bytes) (valid : IsStored f name) (absent : fin.get w.blobs (f.names.text name) ≡ None) → ((u : ℕ) → IsMetaOf u name → ⊥) → Texted f (fin.insert w.blobs (f.names.text name) bytes) w.ops w.tickets
+  plain_committed : (name : BlobName) (bytes : Bytes) (valid : IsStored f name) (absent : fin.get w.blobs (f.names.text name) ≡ None) → ((u : ℕ) → IsMetaOf u name → ⊥)
+      → Texted f (fin.insert w.blobs (f.names.text name) bytes) w.ops w.tickets
   plain_committed name bytes valid absent none =
       texted_blobs f w.blobs w.ops w.tickets x (fin.insert w.blobs (f.names.text name) bytes) (λ n b at. elim (at_was f w.blobs name bytes valid absent [] n b at) [
         | inr was ↦ inl was
@@ -335,7 +337,8 @@ module _ (f : Formats) (w : World) (shelf : List Shelved) (l : Law f w shelf) (x
 
 module _ (f : Formats) (w : World) (shelf : List Shelved) (l : Law f w shelf) (x : Texted f w.blobs w.ops w.tickets) where
   -- an op with other shards, where it was not all done before or stays so
-  other_shards : (o : ℕ) (op now : Op) → fin.get w.ops o ≡ Some op → now.uuid ≡ op.uuid → ((rs : List ShardResult) → AllDone op.shards rs → AllDone now.shards rs × (info_of now rs ≡ info_of op rs)) → Texted f w.blobs (fin.insert w.ops o now) w.tickets
+  other_shards : (o : ℕ) (op now : Op) → fin.get w.ops o ≡ Some op → now.uuid ≡ op.uuid → ((rs : List ShardResult) → AllDone op.shards rs → AllDone now.shards rs × (info_of now rs ≡ info_of op rs))
+      → Texted f w.blobs (fin.insert w.ops o now) w.tickets
   other_shards o op now there uuid done = texted_ops f w.blobs w.ops w.tickets x (fin.insert w.ops o now) (λ p q e. elim (was_in w.ops o now p q e) [
     | inl z ↦ (o, op, there, sym uuid ∙ ap (λ (y : Op). y.uuid) z.1, λ rs all. subst (λ (y : Op). AllDone y.shards rs × (info_of y rs ≡ info_of op rs)) z.1 (done rs all))
     | inr z ↦ (p, q, z.1, refl, λ rs all. (all, refl))
@@ -375,7 +378,8 @@ turned f w new shelf l x (SettlesDelete m k n t s d) = subst (In f) (sym d.new_i
 turned f w new shelf l x (Elects m d) = subst (In f) (sym d.new_is) x
 turned f w new shelf l x (TakesShard m o op s base d) = subst (In f) (sym d.new_is)
     (texted_plain f w.blobs (fin.insert w.ops o (record op { shards = map (given w.next_ticket s.ref.id s.number) op.shards })) w.tickets
-    (other_shards f w shelf l x o op (record op { shards = map (given w.next_ticket s.ref.id s.number) op.shards }) d.ready.op_there refl (λ rs all. absurd (not_done op.shards rs s d.ready.s_there (λ r e. pending_done (sym d.ready.pending ∙ e)) all)))
+    (other_shards f w shelf l x o op (record op { shards = map (given w.next_ticket s.ref.id s.number) op.shards }) d.ready.op_there refl
+    (λ rs all. absurd (not_done op.shards rs s d.ready.s_there (λ r e. pending_done (sym d.ready.pending ∙ e)) all)))
     w.next_ticket (shard_ticket w o op s base) (λ info rs made e. cc) (λ uuids z e. absurd (differ e)))
   where
     differ : {i n : ℕ} {uuids : List ℕ} {plan : Option Swap} → Shard i n ≡ Deleting uuids plan → ⊥

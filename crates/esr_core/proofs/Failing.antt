@@ -74,7 +74,8 @@ module _ (f : Formats) (w : World) (shelf : List Shelved) (l : Lawful f w shelf)
   not_final : (j : ℕ) (u : Ticket) → j ≢ k → fin.get w.tickets j ≡ Some u → u.out ≡ true → u.settled ≡ false → u.term ≡ w.term
       → (info : SnapInfo) (results : List ShardResult) (made : Command) → u.work ≡ Finalize info results made → u.op ≢ o
   not_final j u apart e out uns pres info results made is same = elim d.counts [
-    | inr m ↦ apart (l.queue.one_swap j k (record { t = u; there = e; out = out; unsettled = uns; present = pres; swaps = subst IsMaster (sym is) tt }) (record { t = d.t; there = d.out.there; out = d.out.out; unsettled = d.unsettled; present = m.0; swaps = m.1 }))
+    | inr m ↦ apart (l.queue.one_swap j k (record { t = u; there = e; out = out; unsettled = uns; present = pres; swaps = subst IsMaster (sym is) tt })
+        (record { t = d.t; there = d.out.there; out = d.out.out; unsettled = d.unsettled; present = m.0; swaps = m.1 }))
     | inl sh ↦
         let (i, n, work) = shard_of d.t.work sh in
         let x = c.shards k d.t d.out.there d.out.out i n work in
@@ -134,7 +135,16 @@ module _ (f : Formats) (w : World) (shelf : List Shelved) (l : Lawful f w shelf)
         kept = l.sound.rooted.kept;
         doomed_begun = l.sound.rooted.doomed_begun;
         tickets = each_ticket (TicketLaw f (HeldIn f w) w.doomed (ledger_of w) shelf) w.tickets k v
-            (record { term = old_law.term; raised = old_law.raised; shape = old_law.shape; clean_root = old_law.clean_root; listed = old_law.listed; clean = λ s i. absurd (true≢false (sym i.out)); last = λ s i. absurd (true≢false (sym i.out)); swaps = λ s i. absurd (true≢false (sym i.out)) })
+            (record {
+              term = old_law.term;
+              raised = old_law.raised;
+              shape = old_law.shape;
+              clean_root = old_law.clean_root;
+              listed = old_law.listed;
+              clean = λ s i. absurd (true≢false (sym i.out));
+              last = λ s i. absurd (true≢false (sym i.out));
+              swaps = λ s i. absurd (true≢false (sym i.out));
+            })
             (λ j u apart e. l.sound.rooted.tickets j u e);
         single = λ i j a b. l.sound.rooted.single i j
             (swapping_was f w.tickets w.term k d.t v d.out.there (λ s i e. absurd (true≢false (sym i.out))) i a)
@@ -169,7 +179,8 @@ module _ (f : Formats) (w : World) (shelf : List Shelved) (l : Lawful f w shelf)
 pub failed_delete_lawful : (f : Formats) (w : World) (shelf : List Shelved) → Lawful f w shelf → (k : ℕ) (new : World) → FailedDelete w k new → Lawful f new shelf
 failed_delete_lawful f w shelf l k new d = subst (λ x. Lawful f x shelf) (sym d.new_is) (record {
   sound = record { rooted = record { kept = it.sound.rooted.kept; doomed_begun = it.sound.rooted.doomed_begun; tickets = it.sound.rooted.tickets; single = it.sound.rooted.single }; carried = it.sound.carried; fresh = it.sound.fresh };
-  queue = queue_delete w.term w.root w.ops w.deletes w.completed w.next_op (fin.insert w.tickets k v) it.queue d.t.op d.x (record d.x { failed = true }) d.there refl (λ e. refl) (λ j h t e same. none j h) (λ o op u e is. (l.queue.sources o op u e is).1 d.t.op d.x d.there);
+  queue = queue_delete w.term w.root w.ops w.deletes w.completed w.next_op (fin.insert w.tickets k v) it.queue d.t.op d.x
+      (record d.x { failed = true }) d.there refl (λ e. refl) (λ j h t e same. none j h) (λ o op u e is. (l.queue.sources o op u e is).1 d.t.op d.x d.there);
 })
   where
     v : Ticket

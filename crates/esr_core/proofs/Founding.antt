@@ -44,7 +44,8 @@ module _ (f : Formats) (w : World) (shelf : List Shelved) (l : Law f w shelf) (k
   ]
 
   -- what the base has is not doomed
-  base_aside : (base : Option ℕ) → Base f (HeldIn f w) w.root w.ops r.index r.shard base → (e : FileEntry) → InBase f (At f w.blobs) r.index r.shard base e → (name : BlobName) → Has (part_names r.index r.shard e) name → Has w.doomed name → ⊥
+  base_aside : (base : Option ℕ) → Base f (HeldIn f w) w.root w.ops r.index r.shard base → (e : FileEntry) → InBase f (At f w.blobs) r.index r.shard base e → (name : BlobName) → Has (part_names r.index r.shard e) name
+      → Has w.doomed name → ⊥
   base_aside None h e there name part m = there
   base_aside (Some b) h e (was, reads, has) name part m =
       let stands = h.1.stands in
@@ -55,7 +56,8 @@ module _ (f : Formats) (w : World) (shelf : List Shelved) (l : Law f w shelf) (k
       one_value : (a c : ShardFiles) → Reads (At f w.blobs) (ShardIndex r.index r.shard b) f.shard_index a → Reads (HeldIn f w) (ShardIndex r.index r.shard b) f.shard_index c → a ≡ c
       one_value a c x y = some_same (sym x.reads ∙ ap f.shard_index.read (some_same (sym x.there.0 ∙ y.there.0.0)) ∙ y.reads)
 
-  extends_held : (base : Option ℕ) (held : ShardFiles) (files : List FileEntry) → Base f (HeldIn f w) w.root w.ops r.index r.shard base → ExtendsBase f (At f w.blobs) r.index r.shard base held d.t.uuid files → ExtendsBase f (HeldIn f w) r.index r.shard base held d.t.uuid files
+  extends_held : (base : Option ℕ) (held : ShardFiles) (files : List FileEntry) → Base f (HeldIn f w) w.root w.ops r.index r.shard base → ExtendsBase f (At f w.blobs) r.index r.shard base held d.t.uuid files
+      → ExtendsBase f (HeldIn f w) r.index r.shard base held d.t.uuid files
   extends_held None held files h x = x
   extends_held (Some b) held files h (was, reads, ext) = (was, record { bytes = reads.bytes; there = (reads.there, h.1.stands.held_reads.there.1); reads = reads.reads }, ext)
 
@@ -80,7 +82,8 @@ module _ (f : Formats) (w : World) (shelf : List Shelved) (l : Law f w shelf) (k
   files_held : (source : Option ℕ) → d.op.source ≡ source → AreFilesOf f (At f w.blobs) source r.index r.shard d.snap.files → AreFilesOf f (HeldIn f w) source r.index r.shard d.snap.files
   files_held None copies h = (
     h.0,
-    AllPairs-with (λ (e : FileEntry) (file : Bytes × Bytes). (e.physical ≡ file.0) × FileStands f (At f w.blobs) r.index r.shard e file.1) (λ (e : FileEntry) (file : Bytes × Bytes). (e.physical ≡ file.0) × FileStands f (HeldIn f w) r.index r.shard e file.1) d.snap.files h.0
+    AllPairs-with (λ (e : FileEntry) (file : Bytes × Bytes). (e.physical ≡ file.0) × FileStands f (At f w.blobs) r.index r.shard e file.1)
+        (λ (e : FileEntry) (file : Bytes × Bytes). (e.physical ≡ file.0) × FileStands f (HeldIn f w) r.index r.shard e file.1) d.snap.files h.0
         (λ e file m p. (p.0, held_file e m file.1 p.1)) h.1,
   )
   files_held (Some u) copies (was, reads, same) = (was, source_held f w d.t r.index r.shard u (source_at u copies) was reads, same)

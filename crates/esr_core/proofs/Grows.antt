@@ -57,15 +57,38 @@ module _ (f : Formats) (has now : BlobName → Bytes → Type 0) (func : IsOne n
   indices_kept u indices c = record { info = c.info; info_reads = reads_kept f has now keeps _ _ _ c.info_reads; apart = c.apart; named_once = c.named_once; among = c.among; once = c.once }
 
   pub op_kept : (root : RootData) (op : Op) → OpLaw f has root op → OpLaw f now root op
-  op_kept root op l = record { places = l.places; done = λ s r m e. done_kept op.source op.uuid s r (l.done s r m e); copies = λ u e. let c = l.copies u e in record { listed = c.listed; by_info = indices_kept u op.indices c.by_info }; texts = l.texts; unlisted = l.unlisted; unused = l.unused; one_id = l.one_id; distinct = l.distinct; same_name = l.same_name }
+  op_kept root op l = record {
+    places = l.places;
+    done = λ s r m e. done_kept op.source op.uuid s r (l.done s r m e);
+    copies = λ u e. let c = l.copies u e in record { listed = c.listed; by_info = indices_kept u op.indices c.by_info };
+    texts = l.texts;
+    unlisted = l.unlisted;
+    unused = l.unused;
+    one_id = l.one_id;
+    distinct = l.distinct;
+    same_name = l.same_name;
+  }
 
   pub base_kept : (root : RootData) (shelf : List Shelved) → RootStands f has root shelf → (ops : FinMap nat_cmp Op) (index shard : ℕ) (base : Option ℕ) → Base f has root ops index shard base → Base f now root ops index shard base
   base_kept root shelf s ops index shard None h = h
   base_kept root shelf s ops index shard (Some base) h = (h.0, carries_kept root shelf s ops index shard base h.1)
 
-  pub shard_law_kept : (root : RootData) (shelf : List Shelved) → RootStands f has root shelf → (ops : FinMap nat_cmp Op) (k : ℕ) (t : Ticket) (index shard : ℕ) → ShardLaw f has root ops k t index shard → ShardLaw f now root ops k t index shard
+  pub shard_law_kept : (root : RootData) (shelf : List Shelved) → RootStands f has root shelf → (ops : FinMap nat_cmp Op) (k : ℕ) (t : Ticket) (index shard : ℕ) → ShardLaw f has root ops k t index shard
+      → ShardLaw f now root ops k t index shard
   shard_law_kept root shelf s ops k t index shard l =
-      record { op = l.op; op_there = l.op_there; uuid_is = l.uuid_is; source_is = l.source_is; s = l.s; s_there = l.s_there; state = l.state; index_is = l.index_is; shard_is = l.shard_is; base = base_kept root shelf s ops index shard t.base l.base; ids = l.ids }
+      record {
+        op = l.op;
+        op_there = l.op_there;
+        uuid_is = l.uuid_is;
+        source_is = l.source_is;
+        s = l.s;
+        s_there = l.s_there;
+        state = l.state;
+        index_is = l.index_is;
+        shard_is = l.shard_is;
+        base = base_kept root shelf s ops index shard t.base l.base;
+        ids = l.ids;
+      }
 
   pub carried_kept : (safe term : ℕ) (root : RootData) (shelf : List Shelved) → Picked f has safe shelf → (ops : FinMap nat_cmp Op) (tickets : FinMap nat_cmp Ticket)
       → Carried f has safe term root ops tickets → Carried f now safe term root ops tickets

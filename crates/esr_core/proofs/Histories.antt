@@ -87,7 +87,8 @@ pub record Stepped (f : Formats) (w : World) (shelf : List Shelved) (m : Moment)
   pub made : ((w.deposed ≡ false) × ((t : Turn f w new) × (commands ≡ commands_of f w new t))) ⊎ ((new ≡ w) × (commands ≡ []))
 
 -- each step in a world that isn't deposed is a turn
-step_turn : (f : Formats) (size : ℕ) (w : World) (shelf : List Shelved) → Law f w shelf → (m : Moment) (i : Image) → m.image ≡ Some i → Allows f size w m.entry.who m.entry.step m.entry.reply m.image → Turned f w m.entry.who m.entry.step m.entry.reply (after f w m)
+step_turn : (f : Formats) (size : ℕ) (w : World) (shelf : List Shelved) → Law f w shelf → (m : Moment) (i : Image) → m.image ≡ Some i → Allows f size w m.entry.who m.entry.step m.entry.reply m.image
+    → Turned f w m.entry.who m.entry.step m.entry.reply (after f w m)
 step_turn f size w shelf l m i told alive = turn_by f size w shelf l i doing (accepted f w shelf l) (prune_turn f w shelf l i) m.entry.who m.entry.step m.entry.reply m.image told alive
   where
     doing : (k : ℕ) (r : ShardResult) → DonesBy f size w k r (Some i) → i.blobs ≡ w.blobs → Turned f w k (DoneStep r) HasEnded (stepped f w (record { entry = record { who = k; step = DoneStep r; reply = HasEnded }; image = Some i }))
@@ -95,7 +96,11 @@ step_turn f size w shelf l m i told alive = turn_by f size w shelf l i doing (ac
         plain f w k (DoneStep r) HasEnded _
         (Dones _ k r (by_source d.t.source refl d.done _ ((λ j. record (done_of w k r (d.out.there j)) { blobs = i.blobs }) ∙ (λ j. record (done_by w k r d.t (d.op_there j)) { blobs = same j })))) refl refl
       where
-        by_source : (o : Option ℕ) → d.t.source ≡ o → DoneAs f size d.t r o → (new : World) → new ≡ record w { ops = fin.insert w.ops d.t.op (record d.op { shards = map (marked k (Done r)) d.op.shards }); tickets = fin.insert w.tickets k (record d.t { out = false }); completed = completing w.completed d.t.op (map (marked k (Done r)) d.op.shards) }
+        by_source : (o : Option ℕ) → d.t.source ≡ o → DoneAs f size d.t r o → (new : World) → new ≡ record w {
+          ops = fin.insert w.ops d.t.op (record d.op { shards = map (marked k (Done r)) d.op.shards });
+          tickets = fin.insert w.tickets k (record d.t { out = false });
+          completed = completing w.completed d.t.op (map (marked k (Done r)) d.op.shards);
+        }
             → DoneFound f w k r new
         by_source None at b = done_found f size w shelf l k d.t d.out r d.is d.op d.op_there d.s d.s_there d.state (d.source_is ∙ at) b
         by_source (Some source) at b = cloned_found f w shelf l k d.t d.out r d.is source at b d.op d.op_there (d.source_is ∙ at) d.s d.s_there d.state
@@ -196,7 +201,8 @@ image_kept f size log w shelf m i l image legal told =
 
 committed_parts : (f : Formats) (safe : ℕ) (xs ys : List Moment) (w : World) → committed f safe w (xs ++ ys) ≡ committed f safe w xs ++ committed f safe (world_from f w xs) ys
 committed_parts f safe [] ys w = refl
-committed_parts f safe (x ∷ xs) ys w = ap (λ cs. commands_at f safe w x.entry.who x.entry.step x.entry.reply ++ cs) (committed_parts f safe xs ys (after f w x)) ∙ sym (append_assoc (commands_at f safe w x.entry.who x.entry.step x.entry.reply) _ _)
+committed_parts f safe (x ∷ xs) ys w =
+    ap (λ cs. commands_at f safe w x.entry.who x.entry.step x.entry.reply ++ cs) (committed_parts f safe xs ys (after f w x)) ∙ sym (append_assoc (commands_at f safe w x.entry.who x.entry.step x.entry.reply) _ _)
   where
     append_assoc : (xs ys zs : List Command) → (xs ++ ys) ++ zs ≡ xs ++ (ys ++ zs)
     append_assoc [] ys zs = refl

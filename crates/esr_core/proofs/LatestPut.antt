@@ -70,7 +70,13 @@ module _ (f : Formats) (w : World) (shelf : List Shelved) (l : Law f w shelf) (b
         deletions = l.deletions;
         in_term = record { from = l.in_term.from; below = l.in_term.below };
         written = λ k t e out shard. let h = l.written k t e out shard in
-            record { there = λ n b m. at_kept f w.blobs blobs_now p n b (h.there n b m); own = h.own; base = λ i s g b is at m. at_kept f w.blobs blobs_now p _ b (h.base i s g b is at m); source = λ i s u b is at m. at_kept f w.blobs blobs_now p _ b (h.source i s u b is at m); fresh = λ i s g held is at reads. h.fresh i s g held is at (record { bytes = reads.bytes; there = at_back f w.blobs blobs_now p _ reads.bytes reads.there; reads = reads.reads }) };
+            record {
+              there = λ n b m. at_kept f w.blobs blobs_now p n b (h.there n b m);
+              own = h.own;
+              base = λ i s g b is at m. at_kept f w.blobs blobs_now p _ b (h.base i s g b is at m);
+              source = λ i s u b is at m. at_kept f w.blobs blobs_now p _ b (h.source i s u b is at m);
+              fresh = λ i s g held is at reads. h.fresh i s g held is at (record { bytes = reads.bytes; there = at_back f w.blobs blobs_now p _ reads.bytes reads.there; reads = reads.reads });
+            };
         texts = record {
           swaps = λ k t info rs made e is n b m at. l.texts.swaps k t info rs made e is n b m (at_back f w.blobs blobs_now p n b at);
           ops = λ o op e n b m at. l.texts.ops o op e n b m (at_back f w.blobs blobs_now p n b at);

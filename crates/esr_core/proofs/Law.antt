@@ -26,7 +26,8 @@ use Rattle.esr_core.proofs.DoneShard.{done_shard}
 use Rattle.esr_core.proofs.Take.{taken, taken_carried}
 
 -- numbers of tickets stay below the next one
-pub fresh_same : (m : FinMap nat_cmp Ticket) (next k : ℕ) (t v : Ticket) → fin.get m k ≡ Some t → ((j : ℕ) (u : Ticket) → fin.get m j ≡ Some u → j < next) → (j : ℕ) (u : Ticket) → fin.get (fin.insert m k v) j ≡ Some u → j < next
+pub fresh_same : (m : FinMap nat_cmp Ticket) (next k : ℕ) (t v : Ticket) → fin.get m k ≡ Some t → ((j : ℕ) (u : Ticket) → fin.get m j ≡ Some u → j < next) → (j : ℕ) (u : Ticket) → fin.get (fin.insert m k v) j ≡ Some u
+    → j < next
 fresh_same m next k t v there all j u e = elim (get_was nat_cmp_total nat_cmp-IsAntisymmetric m k v j u e) [
   | inl h ↦ subst (λ x. x < next) (sym h.0) (all k t there)
   | inr h ↦ all j u h.1
@@ -81,21 +82,48 @@ module _ (f : Formats) (w : World) (shelf : List Shelved) (l : Sound f w shelf) 
   latest_sound k new h = subst (λ x. Sound f x shelf) (sym h.new_is)
       (let old = l.rooted.tickets k h.t h.out.there in
       quiet k h.t (record h.t { tried_latest = true }) h.out.there (tried_same h.t)
-      (record { term = old.term; raised = old.raised; shape = old.shape; clean_root = old.clean_root; listed = old.listed; clean = λ s i. old.clean s (record { is = i.is; out = i.out; unsettled = i.unsettled }); last = λ s i. old.last s (record { is = i.is; out = i.out; unsettled = i.unsettled }); swaps = λ s i. old.swaps s (record { is = i.is; out = i.out; unsettled = i.unsettled }) })
+      (record {
+        term = old.term;
+        raised = old.raised;
+        shape = old.shape;
+        clean_root = old.clean_root;
+        listed = old.listed;
+        clean = λ s i. old.clean s (record { is = i.is; out = i.out; unsettled = i.unsettled });
+        last = λ s i. old.last s (record { is = i.is; out = i.out; unsettled = i.unsettled });
+        swaps = λ s i. old.swaps s (record { is = i.is; out = i.out; unsettled = i.unsettled });
+      })
       (λ s i e. (record { is = i.is; out = i.out; unsettled = i.unsettled }, e)))
 
   pub fetch_sound : (k : ℕ) (name : BlobName) (new : World) → FetchFound f w k name new → Sound f new shelf
   fetch_sound k name new h = subst (λ x. Sound f x shelf) (sym h.new_is)
       (let old = l.rooted.tickets k h.t h.out.there in
       quiet k h.t (reading h.t name h.bytes) h.out.there (reading_same h.t name h.bytes)
-      (record { term = old.term; raised = old.raised; shape = old.shape; clean_root = old.clean_root; listed = old.listed; clean = λ s i. old.clean s (record { is = i.is; out = i.out; unsettled = i.unsettled }); last = λ s i. old.last s (record { is = i.is; out = i.out; unsettled = i.unsettled }); swaps = λ s i. old.swaps s (record { is = i.is; out = i.out; unsettled = i.unsettled }) })
+      (record {
+        term = old.term;
+        raised = old.raised;
+        shape = old.shape;
+        clean_root = old.clean_root;
+        listed = old.listed;
+        clean = λ s i. old.clean s (record { is = i.is; out = i.out; unsettled = i.unsettled });
+        last = λ s i. old.last s (record { is = i.is; out = i.out; unsettled = i.unsettled });
+        swaps = λ s i. old.swaps s (record { is = i.is; out = i.out; unsettled = i.unsettled });
+      })
       (λ s i e. (record { is = i.is; out = i.out; unsettled = i.unsettled }, e)))
 
   pub finish_sound : (k : ℕ) (new : World) → Ends w k new → Sound f new shelf
   finish_sound k new h = subst (λ x. Sound f x shelf) (sym h.new_is)
       (let old = l.rooted.tickets k h.t h.out.there in
       quiet k h.t (record h.t { out = false }) h.out.there (ended_same h.t h.no_shard)
-      (record { term = old.term; raised = old.raised; shape = old.shape; clean_root = old.clean_root; listed = old.listed; clean = λ s i. absurd (true≢false (sym i.out)); last = λ s i. absurd (true≢false (sym i.out)); swaps = λ s i. absurd (true≢false (sym i.out)) })
+      (record {
+        term = old.term;
+        raised = old.raised;
+        shape = old.shape;
+        clean_root = old.clean_root;
+        listed = old.listed;
+        clean = λ s i. absurd (true≢false (sym i.out));
+        last = λ s i. absurd (true≢false (sym i.out));
+        swaps = λ s i. absurd (true≢false (sym i.out));
+      })
       (λ s i e. absurd (true≢false (sym i.out))))
 
   pub done_sound : (k : ℕ) (r : ShardResult) (new : World) → DoneShard f w k r new → Sound f new shelf
@@ -107,7 +135,16 @@ module _ (f : Formats) (w : World) (shelf : List Shelved) (l : Sound f w shelf) 
           kept = l.rooted.kept;
           doomed_begun = l.rooted.doomed_begun;
           tickets = each_ticket (TicketLaw f (HeldIn f w) w.doomed (ledger_of w) shelf) w.tickets k (record d.t { out = false })
-              (record { term = old.term; raised = old.raised; shape = old.shape; clean_root = old.clean_root; listed = old.listed; clean = λ s i. absurd (true≢false (sym i.out)); last = λ s i. absurd (true≢false (sym i.out)); swaps = λ s i. absurd (true≢false (sym i.out)) })
+              (record {
+                term = old.term;
+                raised = old.raised;
+                shape = old.shape;
+                clean_root = old.clean_root;
+                listed = old.listed;
+                clean = λ s i. absurd (true≢false (sym i.out));
+                last = λ s i. absurd (true≢false (sym i.out));
+                swaps = λ s i. absurd (true≢false (sym i.out));
+              })
               (λ j u apart e. l.rooted.tickets j u e);
           single = λ i j a b. l.rooted.single i j
               (swapping_was f w.tickets w.term k d.t (record d.t { out = false }) d.out.there (λ s i e. absurd (true≢false (sym i.out))) i a)
@@ -129,7 +166,8 @@ module _ (f : Formats) (w : World) (shelf : List Shelved) (l : Sound f w shelf) 
     rooted = commit_done f w new shelf k name l.rooted c;
     carried = subst (λ x. CarriedIn f x) (sym c.new_is)
         (carried_same f (Safely f (fin.insert w.blobs (f.names.text name) c.bytes) w.doomed) w.safe w.term w.root w.ops w.tickets k c.t (writing c.t name c.bytes) c.out.there (writing_same c.t name c.bytes)
-        (carried_kept f (HeldIn f w) (Safely f (fin.insert w.blobs (f.names.text name) c.bytes) w.doomed) (safely_one f (fin.insert w.blobs (f.names.text name) c.bytes) w.doomed) (held_one f w) (safe_kept f w.blobs name c.bytes c.named c.absent w.doomed) w.safe w.term w.root shelf l.rooted.kept.picked w.ops w.tickets l.carried));
+        (carried_kept f (HeldIn f w) (Safely f (fin.insert w.blobs (f.names.text name) c.bytes) w.doomed) (safely_one f (fin.insert w.blobs (f.names.text name) c.bytes) w.doomed)
+        (held_one f w) (safe_kept f w.blobs name c.bytes c.named c.absent w.doomed) w.safe w.term w.root shelf l.rooted.kept.picked w.ops w.tickets l.carried));
     fresh = subst (λ (x : World). (j : ℕ) (u : Ticket) → fin.get x.tickets j ≡ Some u → j < x.next_ticket) (sym c.new_is) (fresh_same w.tickets w.next_ticket k c.t (writing c.t name c.bytes) c.out.there l.fresh);
   }
 
@@ -138,7 +176,8 @@ module _ (f : Formats) (w : World) (shelf : List Shelved) (l : Sound f w shelf) 
     rooted = commit_fault f w new shelf k name l.rooted c;
     carried = elim c.leaves [
       | inl e ↦ subst (λ x. CarriedIn f x) (sym e) l.carried
-      | inr e ↦ subst (λ x. CarriedIn f x) (sym e.1) (carried_kept f (HeldIn f w) (Safely f (fin.insert w.blobs (f.names.text name) c.bytes) w.doomed) (safely_one f (fin.insert w.blobs (f.names.text name) c.bytes) w.doomed) (held_one f w) (safe_kept f w.blobs name c.bytes c.named e.0 w.doomed) w.safe w.term w.root shelf l.rooted.kept.picked w.ops w.tickets l.carried)
+      | inr e ↦ subst (λ x. CarriedIn f x) (sym e.1) (carried_kept f (HeldIn f w) (Safely f (fin.insert w.blobs (f.names.text name) c.bytes) w.doomed) (safely_one f (fin.insert w.blobs (f.names.text name) c.bytes) w.doomed)
+          (held_one f w) (safe_kept f w.blobs name c.bytes c.named e.0 w.doomed) w.safe w.term w.root shelf l.rooted.kept.picked w.ops w.tickets l.carried)
     ];
     fresh = elim c.leaves [
       | inl e ↦ subst (λ (x : World). (j : ℕ) (u : Ticket) → fin.get x.tickets j ≡ Some u → j < x.next_ticket) (sym e) l.fresh
@@ -157,7 +196,8 @@ module _ (f : Formats) (w : World) (shelf : List Shelved) (l : Sound f w shelf) 
         ]);
   }
 
-  pub settle_law : (k n : ℕ) (t : Ticket) (s : Swap) → MaySettle f w k n t s → t.term ≡ w.term → (info : SnapInfo) (results : List ShardResult) (made : Command) → t.work ≡ Finalize info results made → Sound f (settled w k t n s.root) (shelf_after shelf s.commands)
+  pub settle_law : (k n : ℕ) (t : Ticket) (s : Swap) → MaySettle f w k n t s → t.term ≡ w.term → (info : SnapInfo) (results : List ShardResult) (made : Command) → t.work ≡ Finalize info results made
+      → Sound f (settled w k t n s.root) (shelf_after shelf s.commands)
   settle_law k n t s may present info results made work = record {
     rooted = settles f w shelf k n t s l.rooted may present;
     carried = settles_shards f w shelf k n t s l.rooted l.carried may present info results made work;

@@ -20,7 +20,8 @@ use Rattle.esr_core.proofs.Queues.{Like, queue_ticket, queue_remove, unit_back}
 
 module _ (f : Formats) (has : BlobName → Bytes → Type 0) (root : RootData) (ops : Ops) (o : ℕ) where
   pub done_was : (uuid index shard g : ℕ) → DoneAt (fin.remove ops o) uuid index shard g → DoneAt ops uuid index shard g
-  done_was uuid index shard g d = record { number = d.number; op = d.op; there = (left_in ops o d.number d.op d.there).1; uuid_is = d.uuid_is; s = d.s; s_there = d.s_there; r = d.r; state = d.state; index_is = d.index_is; shard_is = d.shard_is; generation_is = d.generation_is }
+  done_was uuid index shard g d =
+      record { number = d.number; op = d.op; there = (left_in ops o d.number d.op d.there).1; uuid_is = d.uuid_is; s = d.s; s_there = d.s_there; r = d.r; state = d.state; index_is = d.index_is; shard_is = d.shard_is; generation_is = d.generation_is }
 
   live_was : (index shard g : ℕ) → IsLive root (fin.remove ops o) index shard g → IsLive root ops index shard g
   live_was index shard g (inl h) = inl h
@@ -59,7 +60,8 @@ module _ (f : Formats) (has : BlobName → Bytes → Type 0) (root : RootData) (
         held = λ p op z j e m state. c.held p op z j (left_in ops o p op e).1 m state;
       }
 
-pub leaves_lawful : (f : Formats) (w : World) (shelf : List Shelved) → Lawful f w shelf → (o : ℕ) → ((j : ℕ) → UnitIsOut w.tickets w.term o j → ⊥) → Lawful f (record w { ops = fin.remove w.ops o; deletes = fin.remove w.deletes o }) shelf
+pub leaves_lawful : (f : Formats) (w : World) (shelf : List Shelved) → Lawful f w shelf → (o : ℕ) → ((j : ℕ) → UnitIsOut w.tickets w.term o j → ⊥)
+    → Lawful f (record w { ops = fin.remove w.ops o; deletes = fin.remove w.deletes o }) shelf
 leaves_lawful f w shelf l o idle =
     record {
       sound = record {
@@ -87,7 +89,16 @@ ended_lawful f w shelf l k t out not =
     let old = l.sound.rooted.tickets k t out.there in
     record {
       sound = quiet f w shelf l.sound k t (record t { out = false }) out.there (ended_same t not)
-          (record { term = old.term; raised = old.raised; shape = old.shape; clean_root = old.clean_root; listed = old.listed; clean = λ s i. absurd (true≢false (sym i.out)); last = λ s i. absurd (true≢false (sym i.out)); swaps = λ s i. absurd (true≢false (sym i.out)) })
+          (record {
+            term = old.term;
+            raised = old.raised;
+            shape = old.shape;
+            clean_root = old.clean_root;
+            listed = old.listed;
+            clean = λ s i. absurd (true≢false (sym i.out));
+            last = λ s i. absurd (true≢false (sym i.out));
+            swaps = λ s i. absurd (true≢false (sym i.out));
+          })
           (λ s i e. absurd (true≢false (sym i.out)));
       queue = queue_ticket w.term w.tickets k t (record t { out = false }) out.there (like_ended t) w.root w.ops w.deletes w.completed w.next_op (λ e. absurd (true≢false (sym e))) l.queue;
     }

@@ -113,7 +113,8 @@ record Alike (f : Formats) (w : World) (who : ℕ) (step : Step) (reply : Reply)
   counted : (safe : ℕ) → commands_at f safe w who step reply ≡ commands_at f safe w who step (Refused DepotFault)
   ends : ((after f w (moment who step reply image)).deposed ≡ true) ⊎ ((after f w (moment who step (Refused DepotFault) left)).safe ≤ (after f w (moment who step reply image)).safe)
 
-settles_alike : (f : Formats) (size : ℕ) (w : World) (shelf : List Shelved) → Law f w shelf → (who : ℕ) (reply : Reply) (image left : Option Image) → Allows f size w who SettleStep reply image → Settles f w who → Alike f w who SettleStep reply image left
+settles_alike : (f : Formats) (size : ℕ) (w : World) (shelf : List Shelved) → Law f w shelf → (who : ℕ) (reply : Reply) (image left : Option Image) → Allows f size w who SettleStep reply image → Settles f w who
+    → Alike f w who SettleStep reply image left
 settles_alike f size w shelf l who reply image left (allowed.Settling k im s same) cut =
     let up : World = settled_of f w k (fin.get w.tickets k) in
     let now : up.safe ≡ suc s.n = ap (λ (x : World). x.safe) (settled_plain f w k s) in
@@ -130,8 +131,8 @@ allows_pruned (allowed.Pruning k prune rep im h) = h
 deletes_by_fault : {f : Formats} {w : World} {who : ℕ} {image : Option Image} → PruneAllows f w who SettlePruned (Refused DepotFault) image → (s : SettlesDeletion f w who) × (s.t.term ≡ w.term)
 deletes_by_fault (allowed.SettleDeleteFails k im s present same) = (s, present)
 
-deletes_alike : (f : Formats) (w : World) (shelf : List Shelved) → Law f w shelf → (who : ℕ) (reply : Reply) (image left : Option Image) → PruneAllows f w who SettlePruned reply image → (cut : SettlesDeletion f w who) → cut.t.term ≡ w.term
-    → Alike f w who (PruneStep SettlePruned) reply image left
+deletes_alike : (f : Formats) (w : World) (shelf : List Shelved) → Law f w shelf → (who : ℕ) (reply : Reply) (image left : Option Image) → PruneAllows f w who SettlePruned reply image → (cut : SettlesDeletion f w who)
+    → cut.t.term ≡ w.term → Alike f w who (PruneStep SettlePruned) reply image left
 deletes_alike f w shelf l who reply image left (allowed.SettlingDelete k im s present same) cut now =
     let up : World = delete_settled f w k (fin.get w.tickets k) in
     let root : up.safe ≡ suc s.n = ap (λ (x : World). x.safe) (delete_settled_plain f w k s.n s.t s.s s.may) in
@@ -179,7 +180,8 @@ pub record LeftLasts (f : Formats) (w : World) (i : Image) : Type 0 where
 lasts_now : (f : Formats) (w : World) (i : Image) → safe_in f i ≡ w.safe → LeftLasts f w i
 lasts_now f w i e = record { rises = omega (arith, e); alone = λ d. e }
 
-pub left_lasts : (f : Formats) (size : ℕ) (log : List Moment) (w : World) (shelf : List Shelved) (i : Image) → Law f w shelf → ReadsBack f.cluster (record_of w) → IsLegal f size w log → AreTold log → Leaves f size w log i → LeftLasts f w i
+pub left_lasts : (f : Formats) (size : ℕ) (log : List Moment) (w : World) (shelf : List Shelved) (i : Image) → Law f w shelf → ReadsBack f.cluster (record_of w) → IsLegal f size w log → AreTold log → Leaves f size w log i
+    → LeftLasts f w i
 left_lasts f size [] w shelf i l back legal told now = lasts_now f w i (safe_now f w i back now)
 left_lasts f size (m ∷ log) w shelf i l back legal told (inl now) = lasts_now f w i (safe_now f w i back now)
 left_lasts f size (m ∷ log) w shelf i l back legal told (inr (inl cut)) =
@@ -251,7 +253,8 @@ pub no_answer : (reply : Reply) (refusal : Refusal) → reply ≡ WasSettled →
 no_answer reply refusal a b = cc
 
 -- its root is the safe one
-pub settled_safe : (f : Formats) (size : ℕ) (w : World) (m : Moment) (t : Ticket) (n : ℕ) → Allowed f size w m → m.entry.step ≡ SettleStep → m.entry.reply ≡ WasSettled → fin.get w.tickets m.entry.who ≡ Some t → t.raised ≡ Some n → (after f w m).safe ≡ suc n
+pub settled_safe : (f : Formats) (size : ℕ) (w : World) (m : Moment) (t : Ticket) (n : ℕ) → Allowed f size w m → m.entry.step ≡ SettleStep → m.entry.reply ≡ WasSettled → fin.get w.tickets m.entry.who ≡ Some t → t.raised ≡ Some n
+    → (after f w m).safe ≡ suc n
 settled_safe f size w m t n a step reply there raised =
     let who : ℕ = m.entry.who in
     let allows : Allows f size w who m.entry.step m.entry.reply m.image = elim a.answered [ inl h ↦ h.1 | inr dead ↦ absurd (no_answer m.entry.reply dead.refusal reply dead.refused) ] in

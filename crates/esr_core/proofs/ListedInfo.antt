@@ -1,21 +1,15 @@
 -- What stands of a listed snapshot, and its info. The info of one that a finalization made is the one that is there.
-use Rattle.std.proofs.Common.{◌≡◌, ℕ, List, [], ◌∷◌, map, refl, sym, ap, ◌∙◌, subst, inl, inr}
+use Rattle.std.proofs.Common.{◌≡◌, ℕ, List, map, refl, sym, ap, ◌∙◌, subst, inl, inr}
 use Rattle.esr_model.specs.Names.{BlobName, Snap, Meta, IndexMeta}
 use Rattle.esr_model.specs.Values.{Bytes, Has, IndexRef, RootSnap, SnapInfo, Formats}
 use Rattle.esr_model.specs.Shelf.{Shelved}
-use Rattle.esr_model.specs.Image.{AllPairs, At, Reads, SnapStands, RootStands}
+use Rattle.esr_model.specs.Image.{At, Reads, SnapStands, RootStands}
 use Rattle.esr_core.specs.World.{World, HeldIn, metadata}
 use Rattle.esr_core.specs.Queue.{Lists}
 use Rattle.esr_core.specs.Ids.{Law}
 use Rattle.esr_core.specs.Allowed.{WasMade, IsInInfo}
-use Rattle.esr_model.specs.Lists.{Has-mapped}
+use Rattle.esr_model.specs.Lists.{Has-mapped, pairs_both}
 use Rattle.esr_core.specs.Laws.OneValue.{held_one, safe_root_stands}
-
-pub pairs_both : {A B : Type 0} (R : A → B → Type 0) (xs : List A) (ys : List B) (x : A) → AllPairs R xs ys → Has xs x → (y : B) × Has ys y × R x y
-pairs_both R [] ys x h m = absurd m
-pairs_both R (z ∷ xs) [] x h m = absurd h
-pairs_both R (z ∷ xs) (y ∷ ys) x h (inl e) = (y, inl refl, subst (λ q. R q y) e h.0)
-pairs_both R (z ∷ xs) (y ∷ ys) x h (inr m) = let (b, there, r) = pairs_both R xs ys x h.1 m in (b, inr there, r)
 
 -- a snapshot on the shelf, as it is listed
 pub record IsListedAs (f : Formats) (w : World) (shelf : List Shelved) (u : ℕ) : Type 0 where

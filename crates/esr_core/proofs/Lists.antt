@@ -63,8 +63,8 @@ kept_of_record c ((o, Cleaning) ∷ ops) all us h u m = kept_of_record c ops (λ
 
 -- the ids that opening finds lie below the first one of its term
 pub record_opens : (f : Formats) (blobs : Blobs) (cluster : ClusterRecord) (root : RootData) (shelf : List Shelved) → KeptAt f blobs cluster.ledger shelf → RootIs f (At f blobs) cluster.ledger.safe root
-    → ((name : BlobName) → Present f blobs name → IdsBelow name (first_id (suc cluster.ledger.term))) → RootIds root (first_id (suc cluster.ledger.term)) → ((op : ℕ × RecordWork) → Has cluster.ops op → WorkIds op.1 (first_id (suc cluster.ledger.term)))
-    → Law f (opened blobs cluster root) shelf
+    → ((name : BlobName) → Present f blobs name → IdsBelow name (first_id (suc cluster.ledger.term))) → RootIds root (first_id (suc cluster.ledger.term))
+    → ((op : ℕ × RecordWork) → Has cluster.ops op → WorkIds op.1 (first_id (suc cluster.ledger.term))) → Law f (opened blobs cluster root) shelf
 record_opens f blobs cluster root shelf k is below root_below ops_below =
     record {
       lawful = opening_lawful f blobs cluster root shelf k is;
@@ -73,7 +73,13 @@ record_opens f blobs cluster root shelf k is below root_below ops_below =
       in_term = record { from = omega arith; below = omega arith };
       written = λ k t e. absurd (nothing k t e);
       pruned = record { unsettled = λ k t uuids plan e. absurd (nothing k t e); settled = λ k t uuids s e. absurd (nothing k t e) };
-      texts = record { swaps = λ k t info rs made e. absurd (nothing k t e); ops = λ o op e. absurd (nothing o op e); agree = λ k t info rs made o op e. absurd (nothing k t e); one = λ j k t u a b rs qs m n e. absurd (nothing j t e); plans = λ k t uuids s e. absurd (nothing k t e) };
+      texts = record {
+        swaps = λ k t info rs made e. absurd (nothing k t e);
+        ops = λ o op e. absurd (nothing o op e);
+        agree = λ k t info rs made o op e. absurd (nothing k t e);
+        one = λ j k t u a b rs qs m n e. absurd (nothing j t e);
+        plans = λ k t uuids s e. absurd (nothing k t e);
+      };
     }
 
 -- the opened world of a kept image is lawful

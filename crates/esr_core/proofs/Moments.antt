@@ -66,7 +66,8 @@ stays f w who step reply image same no_count =
     }
 
 module _ (f : Formats) (w : World) where
-  raise_turn : (k n : ℕ) (image : Option Image) → Raises f w k n → SameBlobs w image → Raise f w k (record (record (change w k (λ (t : Ticket). record t { raised = Some w.pending })) { pending = suc w.pending }) { blobs = blobs_in image w.blobs })
+  raise_turn : (k n : ℕ) (image : Option Image) → Raises f w k n → SameBlobs w image
+      → Raise f w k (record (record (change w k (λ (t : Ticket). record t { raised = Some w.pending })) { pending = suc w.pending }) { blobs = blobs_in image w.blobs })
   raise_turn k n image r same =
       record {
         t = r.may.t;
@@ -130,7 +131,8 @@ module _ (f : Formats) (w : World) where
   gives_turn k o (GivenDelete uuids) image g same =
       plain f w 0 TakeStep (entry.Gave k o (GivenDelete uuids)) _ (TakesDelete _ o g.0 (record { ready = g.1; new_is = deleting (fin.get w.ops o) })) refl refl
     where
-      deleting : (found : Option Op) → record (taken_by f w o (GivenDelete uuids) found) { blobs = blobs_in image w.blobs } ≡ record w { tickets = fin.insert w.tickets w.next_ticket (plain_ticket w o (Deleting g.0.uuids None)); next_ticket = suc w.next_ticket }
+      deleting : (found : Option Op)
+          → record (taken_by f w o (GivenDelete uuids) found) { blobs = blobs_in image w.blobs } ≡ record w { tickets = fin.insert w.tickets w.next_ticket (plain_ticket w o (Deleting g.0.uuids None)); next_ticket = suc w.next_ticket }
       deleting None = λ j. record w { tickets = fin.insert w.tickets w.next_ticket (plain_ticket w o (Deleting (g.2 j) None)); next_ticket = suc w.next_ticket; blobs = blobs_stay w image same j }
       deleting (Some op) = λ j. record w { tickets = fin.insert w.tickets w.next_ticket (plain_ticket w o (Deleting (g.2 j) None)); next_ticket = suc w.next_ticket; blobs = blobs_stay w image same j }
   gives_turn k o GivenCleanup image g same =
@@ -154,7 +156,8 @@ module _ (f : Formats) (w : World) where
 
   -- ---- blobs
 
-  commit_turn : (size k : ℕ) (name : BlobName) (i : Image) (c : Commits f size w k name) → Adds f w name c.bytes i.blobs → Turned f w k (CommitStep name) entry.WasDone (record (change w k (committing name (told_blob f (Some i) name))) { blobs = i.blobs })
+  commit_turn : (size k : ℕ) (name : BlobName) (i : Image) (c : Commits f size w k name) → Adds f w name c.bytes i.blobs
+      → Turned f w k (CommitStep name) entry.WasDone (record (change w k (committing name (told_blob f (Some i) name))) { blobs = i.blobs })
   commit_turn size k name i c adds =
       let told : fin.get i.blobs (f.names.text name) ≡ Some c.bytes = ap (λ (b : Blobs). fin.get b (f.names.text name)) adds.1 ∙ get_same nat_list_cmp_total texts_same w.blobs (f.names.text name) c.bytes in
       plain f w k (CommitStep name) entry.WasDone _
@@ -163,20 +166,45 @@ module _ (f : Formats) (w : World) where
   commit_fails : (size k : ℕ) (name : BlobName) (i : Image) (c : Commits f size w k name) → (i.blobs ≡ w.blobs) ⊎ Adds f w name c.bytes i.blobs → Turned f w k (CommitStep name) (Refused DepotFault) (record w { blobs = i.blobs })
   commit_fails size k name i c leaves =
       plain f w k (CommitStep name) (Refused DepotFault) _
-      (turns.CommitFails _ k name (record { t = c.t; out = c.out; bytes = c.bytes; named = c.named; may = c.may; leaves = elim leaves [ inl e ↦ inl (λ j. record w { blobs = e j }) | inr adds ↦ inr (adds.0, λ j. record w { blobs = adds.1 j }) ] })) refl refl
+      (turns.CommitFails _ k name
+      (record { t = c.t; out = c.out; bytes = c.bytes; named = c.named; may = c.may; leaves = elim leaves [ inl e ↦ inl (λ j. record w { blobs = e j }) | inr adds ↦ inr (adds.0, λ j. record w { blobs = adds.1 j }) ] })) refl refl
 
   find_turn : (k : ℕ) (name : BlobName) (image : Option Image) → Refinds f w k name → (bytes : Bytes) → At f w.blobs name bytes → SameBlobs w image
       → Turned f w k (CommitStep name) entry.WasThere (record (change w k (λ (t : Ticket). noting t name)) { blobs = blobs_in image w.blobs })
   find_turn k name image c bytes there same =
       plain f w k (CommitStep name) entry.WasThere _
-      (Finds _ k name (record { t = c.t; out = c.out; info = c.info; results = c.results; made = c.made; work = c.work; bytes = c.bytes; own = c.own; there = (bytes, there); new_is = λ j. record (with_given w k (λ (t : Ticket). noting t name) (c.out.there j)) { blobs = blobs_stay w image same j } })) refl refl
+      (Finds _ k name (record {
+        t = c.t;
+        out = c.out;
+        info = c.info;
+        results = c.results;
+        made = c.made;
+        work = c.work;
+        bytes = c.bytes;
+        own = c.own;
+        there = (bytes, there);
+        new_is = λ j. record (with_given w k (λ (t : Ticket). noting t name) (c.out.there j)) { blobs = blobs_stay w image same j };
+      })) refl refl
 
-  latest_turn : (k : ℕ) (step : Step) (reply : Reply) (image : Option Image) → Puts f w k → is_settle step ≡ false → (blobs : Blobs) → PutsLatest f w.blobs blobs → Turned f w k step reply (record (change w k (λ (t : Ticket). record t { tried_latest = true })) { blobs = blobs })
+  latest_turn : (k : ℕ) (step : Step) (reply : Reply) (image : Option Image) → Puts f w k → is_settle step ≡ false → (blobs : Blobs) → PutsLatest f w.blobs blobs
+      → Turned f w k step reply (record (change w k (λ (t : Ticket). record t { tried_latest = true })) { blobs = blobs })
   latest_turn k step reply image c no_settle blobs puts =
       plain f w k step reply _
-      (Latests _ k (record { now = blobs; puts = puts; tries = record { t = c.t; out = record { there = c.out.there; out = c.out.out }; s = c.s; is = c.is; unsettled = c.unsettled; new_is = λ j. record (with_given w k (λ (t : Ticket). record t { tried_latest = true }) (c.out.there j)) { blobs = blobs } } })) no_settle refl
+      (Latests _ k (record {
+        now = blobs;
+        puts = puts;
+        tries = record {
+          t = c.t;
+          out = record { there = c.out.there; out = c.out.out };
+          s = c.s;
+          is = c.is;
+          unsettled = c.unsettled;
+          new_is = λ j. record (with_given w k (λ (t : Ticket). record t { tried_latest = true }) (c.out.there j)) { blobs = blobs };
+        };
+      })) no_settle refl
 
-  fetch_turn : (k : ℕ) (name : BlobName) (i : Image) (t : Ticket) → IsOut w k t → IsShard t.work → (bytes : Bytes) → At f w.blobs name bytes → i.blobs ≡ w.blobs → Turned f w k (FetchStep name) entry.WasFetched (record (change w k (fetching name (told_blob f (Some i) name))) { blobs = i.blobs })
+  fetch_turn : (k : ℕ) (name : BlobName) (i : Image) (t : Ticket) → IsOut w k t → IsShard t.work → (bytes : Bytes) → At f w.blobs name bytes → i.blobs ≡ w.blobs
+      → Turned f w k (FetchStep name) entry.WasFetched (record (change w k (fetching name (told_blob f (Some i) name))) { blobs = i.blobs })
   fetch_turn k name i t out shard bytes at same =
       let told : fin.get i.blobs (f.names.text name) ≡ Some bytes = ap (λ (b : Blobs). fin.get b (f.names.text name)) same ∙ at.0 in
       plain f w k (FetchStep name) entry.WasFetched _
@@ -206,7 +234,8 @@ module _ (f : Formats) (w : World) where
   not_before : (shelf : List Shelved) → Law f w shelf → (k : ℕ) (s : Settles f w k) → w.safe ≤ s.n
   not_before shelf l k s = ((l.lawful.sound.rooted.tickets k s.t s.may.out.there).last s.s (record { is = s.may.is; out = s.may.out.out; unsettled = s.may.unsettled }) s.present s.n s.may.raised).1
 
-  settle_turn : (shelf : List Shelved) → Law f w shelf → (k : ℕ) (image : Option Image) → Settles f w k → SameBlobs w image → Turned f w k SettleStep WasSettled (record (settled_of f w k (fin.get w.tickets k)) { blobs = blobs_in image w.blobs })
+  settle_turn : (shelf : List Shelved) → Law f w shelf → (k : ℕ) (image : Option Image) → Settles f w k → SameBlobs w image
+      → Turned f w k SettleStep WasSettled (record (settled_of f w k (fin.get w.tickets k)) { blobs = blobs_in image w.blobs })
   settle_turn shelf l k image s same =
       subst (λ (x : World). Turned f w k SettleStep WasSettled x) (sym (settled_is k s (blobs_in image w.blobs)))
       (record {
@@ -222,15 +251,16 @@ module _ (f : Formats) (w : World) where
       subst (λ (x : World). Turned f w k SettleStep (Refused DepotFault) (record (if b then x else w) { deposed = true; blobs = blobs_in image w.blobs })) (sym (settled_plain k s))
       (record {
         turn = falls (record (settled w k s.t s.n s.s.root) { deletes = fin.remove w.deletes s.t.op }) (settle_final k s _ refl) b (blobs_in image w.blobs) (blobs_stay w image same) refl;
-        commands = λ safe above alone. command_is k s safe ∙ chosen b safe above (alone refl) ∙ sym (falls_commands (record (settled w k s.t s.n s.s.root) { deletes = fin.remove w.deletes s.t.op }) (settle_final k s _ refl) b (blobs_in image w.blobs) (blobs_stay w image same) refl);
+        commands = λ safe above alone. command_is k s safe ∙ chosen b safe above (alone refl)
+            ∙ sym (falls_commands (record (settled w k s.t s.n s.s.root) { deletes = fin.remove w.deletes s.t.op }) (settle_final k s _ refl) b (blobs_in image w.blobs) (blobs_stay w image same) refl);
         early = λ safe below. command_is k s safe ∙ ap (λ c. if c then s.s.commands else []) (less_false s.n safe (omega (arith, below, not_below)));
       })
     where
       not_below : w.safe ≤ s.n
       not_below = not_before shelf l k s
 
-      chosen : (b : Bool) (safe : ℕ) → (if b then record (settled w k s.t s.n s.s.root) { deletes = fin.remove w.deletes s.t.op } else w).safe ≤ safe → safe ≡ (if b then record (settled w k s.t s.n s.s.root) { deletes = fin.remove w.deletes s.t.op } else w).safe
-          → (if nat_lt s.n safe then s.s.commands else []) ≡ (if b then s.s.commands else [])
+      chosen : (b : Bool) (safe : ℕ) → (if b then record (settled w k s.t s.n s.s.root) { deletes = fin.remove w.deletes s.t.op } else w).safe ≤ safe
+          → safe ≡ (if b then record (settled w k s.t s.n s.s.root) { deletes = fin.remove w.deletes s.t.op } else w).safe → (if nat_lt s.n safe then s.s.commands else []) ≡ (if b then s.s.commands else [])
       chosen true safe above is = ap (λ c. if c then s.s.commands else []) (less_true s.n safe (let h : suc s.n ≤ safe = above in omega (arith, h)))
       chosen false safe above is = let e : safe ≡ w.safe = is in ap (λ c. if c then s.s.commands else []) (less_false s.n safe (omega (arith, e, not_below)))
 
@@ -294,7 +324,13 @@ module _ (f : Formats) (w : World) where
 
   ends_turn : (k : ℕ) (image : Option Image) → Finishes w k → SameBlobs w image → Turned f w k FinishStep HasEnded (record (change w k (λ (t : Ticket). record t { out = false })) { blobs = blobs_in image w.blobs })
   ends_turn k image c same =
-      plain f w k FinishStep HasEnded _ (Ending _ k (record { t = c.t; out = c.out; no_shard = c.no_shard; done = elim c.done [ inl h ↦ inl h.0 | inr h ↦ inr h.0 ]; new_is = λ j. record (with_given w k (λ (t : Ticket). record t { out = false }) (c.out.there j)) { blobs = blobs_stay w image same j } })) refl refl
+      plain f w k FinishStep HasEnded _ (Ending _ k (record {
+        t = c.t;
+        out = c.out;
+        no_shard = c.no_shard;
+        done = elim c.done [ inl h ↦ inl h.0 | inr h ↦ inr h.0 ];
+        new_is = λ j. record (with_given w k (λ (t : Ticket). record t { out = false }) (c.out.there j)) { blobs = blobs_stay w image same j };
+      })) refl refl
 
   -- an op leaves: by its drop, or with the end of a cleanup
   drop_turn : (k : ℕ) (image : Option Image) (c : Drops f w k image) (new : World)
@@ -311,7 +347,8 @@ module _ (f : Formats) (w : World) where
       → Turned f w k (ListStep from) (entry.WasListed page) (record (change w k (λ (t : Ticket). listing t page)) { blobs = i.blobs })
   page_turn k from page i g here same =
       plain f w k (ListStep from) (entry.WasListed page) _
-      (Pages _ k page (record { t = g.t; out = g.out; unsettled = g.unsettled; there = λ b m. let x = here.there b m in (x.0, x.1); new_is = λ j. record (with_given w k (λ (t : Ticket). listing t page) (g.out.there j)) { blobs = same j } })) refl refl
+      (Pages _ k page (record { t = g.t; out = g.out; unsettled = g.unsettled; there = λ b m. let x = here.there b m in (x.0, x.1); new_is = λ j. record (with_given w k (λ (t : Ticket). listing t page) (g.out.there j)) { blobs = same j } })) refl
+      refl
 
 -- the blobs of an image that is told
 blobs_told : (w : World) (i : Image) (image : Option Image) → image ≡ Some i → blobs_in image w.blobs ≡ i.blobs
@@ -351,13 +388,18 @@ module _ (f : Formats) (size : ℕ) (w : World) (shelf : List Shelved) (l : Law 
     (doing : (k : ℕ) (r : ShardResult) → Dones f size w k r (Some i) → i.blobs ≡ w.blobs → Turned f w k (DoneStep r) HasEnded (stepped f w (moment k (DoneStep r) HasEnded (Some i))))
     (asking : (name : Bytes) (indices : List entry.AskedIndex) (time o : ℕ) → Accepts f w name indices time o → AskCreate f w (asked_op w name indices time) (asked w (Snapshot name indices time)))
     (pruning : (k : ℕ) (prune : Prune) (reply : Reply) → PruneAllows f w k prune reply (Some i) → Turned f w k (PruneStep prune) reply (stepped f w (moment k (PruneStep prune) reply (Some i)))) where
-  ask_turn : (name : Bytes) (indices : List entry.AskedIndex) (time o : ℕ) (image : Option Image) → Accepts f w name indices time o → SameBlobs w image → Turned f w 0 (AskStep (Snapshot name indices time)) (entry.Accepted o) (stepped f w (moment 0 (AskStep (Snapshot name indices time)) (entry.Accepted o) image))
+  ask_turn : (name : Bytes) (indices : List entry.AskedIndex) (time o : ℕ) (image : Option Image) → Accepts f w name indices time o → SameBlobs w image
+      → Turned f w 0 (AskStep (Snapshot name indices time)) (entry.Accepted o) (stepped f w (moment 0 (AskStep (Snapshot name indices time)) (entry.Accepted o) image))
   ask_turn name indices time o image acc same =
-      plain f w 0 _ _ _ (AsksCreate _ (asked_op w name indices time) (subst (AskCreate f w (asked_op w name indices time)) (λ j. record (asked w (Snapshot name indices time)) { blobs = sym (blobs_stay w image same) j }) (asking name indices time o acc))) refl refl
+      plain f w 0 _ _ _
+      (AsksCreate _ (asked_op w name indices time) (subst (AskCreate f w (asked_op w name indices time)) (λ j. record (asked w (Snapshot name indices time)) { blobs = sym (blobs_stay w image same) j }) (asking name indices time o acc)))
+      refl refl
 
-  ask_fails : (name : Bytes) (indices : List entry.AskedIndex) (time : ℕ) (image : Option Image) → Accepts f w name indices time w.next_op → SameBlobs w image → Turned f w 0 (AskStep (Snapshot name indices time)) (Refused DepotFault) (stepped f w (moment 0 (AskStep (Snapshot name indices time)) (Refused DepotFault) image))
+  ask_fails : (name : Bytes) (indices : List entry.AskedIndex) (time : ℕ) (image : Option Image) → Accepts f w name indices time w.next_op → SameBlobs w image
+      → Turned f w 0 (AskStep (Snapshot name indices time)) (Refused DepotFault) (stepped f w (moment 0 (AskStep (Snapshot name indices time)) (Refused DepotFault) image))
   ask_fails name indices time image acc same =
-      falls_plain f w 0 (AskStep (Snapshot name indices time)) (asked w (Snapshot name indices time)) (asked w (Snapshot name indices time)) (AsksCreate _ (asked_op w name indices time) (asking name indices time w.next_op acc)) _ image same refl refl refl refl
+      falls_plain f w 0 (AskStep (Snapshot name indices time)) (asked w (Snapshot name indices time)) (asked w (Snapshot name indices time))
+      (AsksCreate _ (asked_op w name indices time) (asking name indices time w.next_op acc)) _ image same refl refl refl refl
 
   -- ---- a clone that is asked
 
@@ -370,13 +412,15 @@ module _ (f : Formats) (size : ℕ) (w : World) (shelf : List Shelved) (l : Law 
         | inr there ↦ of_told i image (λ blobs. allowed.IsInInfo f w taken.source acc.all) told there
       ]
 
-  clone_asked : (source name : Bytes) (names : List Bytes) (time o : ℕ) (taken : CloneOf) (image : Option Image) → image ≡ Some i → AcceptsClone f w source name names time o taken image → AskCreate f w (cloned_op w name time taken) (clone_opened w name time taken)
+  clone_asked : (source name : Bytes) (names : List Bytes) (time o : ℕ) (taken : CloneOf) (image : Option Image) → image ≡ Some i → AcceptsClone f w source name names time o taken image
+      → AskCreate f w (cloned_op w name time taken) (clone_opened w name time taken)
   clone_asked source name names time o taken image told acc = accepted_clone f w source name names time o taken image acc shelf l (clone_info source name names time o taken image told acc)
 
   asks_clone : (source name : Bytes) (names : List Bytes) (time : ℕ) (taken : Option CloneOf) (reply : Reply) (image : Option Image) → image ≡ Some i → CloneAllows f w source name names time taken reply image → SameBlobs w image
       → Turned f w 0 (AskStep (entry.Clone source name names time taken)) reply (stepped f w (moment 0 (AskStep (entry.Clone source name names time taken)) reply image))
   asks_clone source name names time taken reply image told (OpeningClone t o im acc) same =
-      plain f w 0 _ _ _ (AsksCreate _ (cloned_op w name time t) (subst (AskCreate f w (cloned_op w name time t)) (λ j. record (clone_opened w name time t) { blobs = sym (blobs_stay w im same) j }) (clone_asked source name names time o t im told acc))) refl refl
+      plain f w 0 _ _ _
+      (AsksCreate _ (cloned_op w name time t) (subst (AskCreate f w (cloned_op w name time t)) (λ j. record (clone_opened w name time t) { blobs = sym (blobs_stay w im same) j }) (clone_asked source name names time o t im told acc))) refl refl
   asks_clone source name names time taken reply image told (CloneUsed uuid im clear is) same = stays f w 0 (AskStep (entry.Clone source name names time None)) _ im same refl
   asks_clone source name names time taken reply image told (SourceNotListed im may none) same = stays f w 0 (AskStep (entry.Clone source name names time None)) _ im same refl
   asks_clone source name names time taken reply image told (SourceDeleted uuid d im may listed named) same = stays f w 0 (AskStep (entry.Clone source name names time None)) _ im same refl
@@ -384,17 +428,20 @@ module _ (f : Formats) (size : ℕ) (w : World) (shelf : List Shelved) (l : Law 
   asks_clone source name names time taken reply image told (FullOfClones uuid im may full) same = stays f w 0 (AskStep (entry.Clone source name names time None)) _ im same refl
   asks_clone source name names time taken reply image told (CloneSpent uuid im may room spent) same = stays f w 0 (AskStep (entry.Clone source name names time None)) _ im same refl
   asks_clone source name names time taken reply image told (CloneFault t im acc) same =
-      falls_plain f w 0 (AskStep (entry.Clone source name names time (Some t))) (clone_opened w name time t) (clone_opened w name time t) (AsksCreate _ (cloned_op w name time t) (clone_asked source name names time w.next_op t im told acc)) _ im same refl refl refl refl
+      falls_plain f w 0 (AskStep (entry.Clone source name names time (Some t))) (clone_opened w name time t) (clone_opened w name time t)
+      (AsksCreate _ (cloned_op w name time t) (clone_asked source name names time w.next_op t im told acc)) _ im same refl refl refl refl
 
   -- ---- a delete that is asked
 
-  going_into : (names : List Bytes) (image : Option Image) → MayDelete w names → SameBlobs w image → Turned f w 0 (AskStep (DeleteSnapshots names)) (entry.Accepted (delete_number w names)) (stepped f w (moment 0 (AskStep (DeleteSnapshots names)) (entry.Accepted (delete_number w names)) image))
+  going_into : (names : List Bytes) (image : Option Image) → MayDelete w names → SameBlobs w image
+      → Turned f w 0 (AskStep (DeleteSnapshots names)) (entry.Accepted (delete_number w names)) (stepped f w (moment 0 (AskStep (DeleteSnapshots names)) (entry.Accepted (delete_number w names)) image))
   going_into names image may same =
       let kept : (asked_delete w names).blobs ≡ blobs_in image w.blobs = ap (λ (x : World). x.blobs) (delete_leaves w names) ∙ sym (blobs_stay w image same) in
       let turn = subst (λ (x : World). (t : Turn f w x) × (commands_of f w x t ≡ [])) (λ j. record (asked_delete w names) { blobs = kept j }) (delete_turn f w names may) in
       plain f w 0 (AskStep (DeleteSnapshots names)) (entry.Accepted (delete_number w names)) _ turn.0 refl turn.1
 
-  asks_delete : (names : List Bytes) (reply : Reply) (image : Option Image) → DeleteAllows w names reply → SameBlobs w image → Turned f w 0 (AskStep (DeleteSnapshots names)) reply (stepped f w (moment 0 (AskStep (DeleteSnapshots names)) reply image))
+  asks_delete : (names : List Bytes) (reply : Reply) (image : Option Image) → DeleteAllows w names reply → SameBlobs w image
+      → Turned f w 0 (AskStep (DeleteSnapshots names)) reply (stepped f w (moment 0 (AskStep (DeleteSnapshots names)) reply image))
   asks_delete names reply image (GoingInto acc) same = going_into names image acc.may same
   asks_delete names reply image (NotNamed place clear first) same = stays f w 0 (AskStep (DeleteSnapshots names)) _ image same refl
   asks_delete names reply image (CloneStands o clear named lowest) same = stays f w 0 (AskStep (DeleteSnapshots names)) _ image same refl
@@ -419,7 +466,8 @@ module _ (f : Formats) (size : ℕ) (w : World) (shelf : List Shelved) (l : Law 
   -- ---- restores and reading
 
   -- a restore that is asked
-  asks_restore : (name place : Bytes) (reply : Reply) (image : Option Image) → image ≡ Some i → RestoreAllows f w name reply image → SameBlobs w image → Turned f w 0 (AskStep (Restore name place)) reply (stepped f w (moment 0 (AskStep (Restore name place)) reply image))
+  asks_restore : (name place : Bytes) (reply : Reply) (image : Option Image) → image ≡ Some i → RestoreAllows f w name reply image → SameBlobs w image
+      → Turned f w 0 (AskStep (Restore name place)) reply (stepped f w (moment 0 (AskStep (Restore name place)) reply image))
   asks_restore name place reply image told (OpeningRestore o uuid indices im acc) same =
       let listed : Lists w.root uuid = (acc.listed.0, acc.listed.1, acc.listed.3) in
       let info : allowed.IsInInfo f w uuid indices = elim acc.indices_of.told [
@@ -441,8 +489,8 @@ module _ (f : Formats) (size : ℕ) (w : World) (shelf : List Shelved) (l : Law 
   asks_restore name place reply image told (FullOfRestores uuid im listed spared full) same = stays f w 0 (AskStep (Restore name place)) _ im same refl
 
   -- a blob that a restore's ticket fetched
-  reads_by : (k : ℕ) (name : BlobName) (image : Option Image) → image ≡ Some i → (q : Reader) → IsReading w k q → MayRead f q name image → (bytes : Bytes) → At f w.blobs name bytes → told_blob f image name ≡ Some bytes → SameBlobs w image
-      → Turned f w k (ReadStep (ReadBlob name)) entry.WasFetched (stepped f w (moment k (ReadStep (ReadBlob name)) entry.WasFetched image))
+  reads_by : (k : ℕ) (name : BlobName) (image : Option Image) → image ≡ Some i → (q : Reader) → IsReading w k q → MayRead f q name image → (bytes : Bytes) → At f w.blobs name bytes → told_blob f image name ≡ Some bytes
+      → SameBlobs w image → Turned f w k (ReadStep (ReadBlob name)) entry.WasFetched (stepped f w (moment k (ReadStep (ReadBlob name)) entry.WasFetched image))
   reads_by zero name image told q out may bytes at is same = stays f w 0 (ReadStep (ReadBlob name)) entry.WasFetched image same refl
   reads_by (suc k) name image told q out may bytes at is same =
       plain f w (suc k) (ReadStep (ReadBlob name)) entry.WasFetched _
@@ -472,7 +520,8 @@ module _ (f : Formats) (size : ℕ) (w : World) (shelf : List Shelved) (l : Law 
       plain f w k step HasEnded _
       (Besides _ w (Stays w refl) (EndsShard _ k state (record { q = q; reading = out; r = r; there = there; over = over; new_is = λ j. record (shard_ended w k q r state) { blobs = blobs_stay w image same j } }))) no_settle refl
 
-  restored_by : (k files bytes : ℕ) (image : Option Image) (q : Reader) → IsReading w k q → SameBlobs w image → Turned f w k (ReadStep (RestoredShard files bytes)) HasEnded (stepped f w (moment k (ReadStep (RestoredShard files bytes)) HasEnded image))
+  restored_by : (k files bytes : ℕ) (image : Option Image) (q : Reader) → IsReading w k q → SameBlobs w image
+      → Turned f w k (ReadStep (RestoredShard files bytes)) HasEnded (stepped f w (moment k (ReadStep (RestoredShard files bytes)) HasEnded image))
   restored_by zero files bytes image q out same = stays f w 0 (ReadStep (RestoredShard files bytes)) HasEnded image same refl
   restored_by (suc k) files bytes image q out same =
       subst (λ x. Turned f w (suc k) (ReadStep (RestoredShard files bytes)) HasEnded (record (read_over w (suc k) (Restored files bytes) x) { blobs = blobs_in image w.blobs })) (sym out.there)
@@ -511,7 +560,8 @@ module _ (f : Formats) (size : ℕ) (w : World) (shelf : List Shelved) (l : Law 
       plain f w 0 (ReadStep (CommitTest name)) entry.WasDone _
       (Tests _ (AddsTest _ name bytes (record { named = own.stored; id = own.id; test = own.test; drawn = own.below; absent = adds.0; new_is = λ j. record w { doomed = name ∷ w.doomed; blobs = adds.1 j } }))) refl refl
 
-  fails_test : (name : BlobName) (bytes : Bytes) → IsOwnTest f w name → (i.blobs ≡ w.blobs) ⊎ Adds f w name bytes i.blobs → Turned f w 0 (ReadStep (CommitTest name)) (Refused DepotFault) (stepped f w (moment 0 (ReadStep (CommitTest name)) (Refused DepotFault) (Some i)))
+  fails_test : (name : BlobName) (bytes : Bytes) → IsOwnTest f w name → (i.blobs ≡ w.blobs) ⊎ Adds f w name bytes i.blobs
+      → Turned f w 0 (ReadStep (CommitTest name)) (Refused DepotFault) (stepped f w (moment 0 (ReadStep (CommitTest name)) (Refused DepotFault) (Some i)))
   fails_test name bytes own (inl e) =
       let was : Option Bytes = fin.get w.blobs (f.names.text name) in
       plain f w 0 (ReadStep (CommitTest name)) (Refused DepotFault) _
@@ -561,7 +611,14 @@ module _ (f : Formats) (size : ℕ) (w : World) (shelf : List Shelved) (l : Law 
   turn_of who step reply image told (allowed.Giving k o unit im is lowest g same) = gives_turn f w k o unit im g same
   turn_of who step reply image told (allowed.Drawing k n first im d same) =
       plain f w k (DrawStep n) (entry.DrawnFrom first) _
-      (DrawsShard _ k n (record { t = d.may.t; out = d.may.out; shard = d.may.shard; once = d.may.once; fits = d.fits; new_is = λ j. record (record (with_given w k (λ (t : Ticket). record t { first = w.next_id; drawn = n }) (d.may.out.there j)) { next_id = w.next_id + n }) { blobs = blobs_stay w im same j } })) refl refl
+      (DrawsShard _ k n (record {
+        t = d.may.t;
+        out = d.may.out;
+        shard = d.may.shard;
+        once = d.may.once;
+        fits = d.fits;
+        new_is = λ j. record (record (with_given w k (λ (t : Ticket). record t { first = w.next_id; drawn = n }) (d.may.out.there j)) { next_id = w.next_id + n }) { blobs = blobs_stay w im same j };
+      })) refl refl
   turn_of who step reply image told (allowed.Beginning k name im c same) = stays f w k (BeginStep name) entry.WasBegun im same refl
   turn_of who step reply image told (allowed.BeginningLatest k im c same) = stays f w k (BeginStep Latest) entry.WasBegun im same refl
   turn_of who step reply image told (allowed.Committing k name im c adds) =
@@ -640,4 +697,8 @@ module _ (f : Formats) (size : ℕ) (w : World) (shelf : List Shelved) (l : Law 
   pub turn_by : (who : ℕ) (step : Step) (reply : Reply) (image : Option Image) → image ≡ Some i → Allows f size w who step reply image → Turned f w who step reply (after f w (moment who step reply image))
   turn_by who step reply image told a =
       let t = turn_of who step reply image told a in
-      record { turn = Besides _ (stepped f w (moment who step reply image)) t.turn (Calls _ (caller_after f (stepped f w (moment who step reply image)).caller who step reply image) (with_entry w.entries (moment who step reply image).entry) refl); commands = t.commands; early = t.early }
+      record {
+        turn = Besides _ (stepped f w (moment who step reply image)) t.turn (Calls _ (caller_after f (stepped f w (moment who step reply image)).caller who step reply image) (with_entry w.entries (moment who step reply image).entry) refl);
+        commands = t.commands;
+        early = t.early;
+      }

@@ -1,7 +1,6 @@
 -- The next id stays one of the present term, and the uuids that open deletes name stay below it.
-use Rattle.std.proofs.Common.{◌≡◌, ◌⊎◌, ℕ, suc, ◌+◌, ◌<◌, ◌≤◌, List, ◌++◌, Bool, true, false, Some, refl, sym, ap, ◌∙◌, subst, inl, inr, arith, nat_cmp}
+use Rattle.std.proofs.Common.{◌≡◌, ◌⊎◌, ℕ, suc, ◌+◌, ◌<◌, ◌≤◌, List, ◌++◌, Bool, true, false, Some, refl, sym, ap, ◌∙◌, subst, inl, inr, arith}
 use Rattle.std.specs.Prelude.{if◌then◌else◌}
-use Rattle.std.specs.FinMap.{FinMap}
 use Rattle.std.specs.FinMap as fin
 use Rattle.esr_core.specs.Laws.NumberMaps.{was_in, left_in}
 use Rattle.esr_model.specs.Values.{Has, Formats}
@@ -12,9 +11,7 @@ use Rattle.esr_core.specs.Turns.{IsKnown, Turn, Stays, Commits, CommitFails, Fin
 use Rattle.esr_core.specs.Ids.{DeletionIds, InTerm, Law}
 use Rattle.esr_core.proofs.Besides.{aside_of, term_aside, kept_aside}
 use Rattle.esr_model.specs.Lists.{Has-either}
-
-abbrev Deletions : Type 0
-Deletions = FinMap nat_cmp Deletion
+use Rattle.esr_core.specs.Laws.Maps.{Deletes}
 
 -- the same term and next id
 same_term : (w new : World) → new.term ≡ w.term → new.next_id ≡ w.next_id → InTerm w → InTerm new
@@ -41,7 +38,7 @@ term_of w = w.term
 abbrev next_of : World → ℕ
 next_of w = w.next_id
 
-abbrev deletes_of : World → Deletions
+abbrev deletes_of : World → Deletes
 deletes_of w = w.deletes
 
 tests_term : (f : Formats) (w : World) → InTerm w → (new : World) → TestTurn f w new → InTerm new
@@ -84,7 +81,8 @@ turn_in_term f w new l (Tests m t) = tests_term f w l m t
 turn_in_term f w new l (Besides m up h r) = term_aside up m (aside_of f up m r) (turn_in_term f w up l h)
 
 -- deletes that were, or that name known uuids alone
-below_from : (c d : ℕ) (old now : Deletions) → c ≤ d → ((n : ℕ) (x : Deletion) → fin.get now n ≡ Some x → (u : ℕ) → Has x.uuids u → ((p : ℕ) × (y : Deletion) × (fin.get old p ≡ Some y) × Has y.uuids u) ⊎ (u < c)) → DeletionIds c old → DeletionIds d now
+below_from : (c d : ℕ) (old now : Deletes) → c ≤ d → ((n : ℕ) (x : Deletion) → fin.get now n ≡ Some x → (u : ℕ) → Has x.uuids u → ((p : ℕ) × (y : Deletion) × (fin.get old p ≡ Some y) × Has y.uuids u) ⊎ (u < c))
+    → DeletionIds c old → DeletionIds d now
 below_from c d old now le from h n x e u m = elim (from n x e u m) [
   | inl z ↦ let b : u < c = h z.0 z.1 z.2 u z.3 in omega (arith, b)
   | inr b ↦ omega (arith, b)
@@ -99,7 +97,8 @@ more_below w new n is e h = subst (λ c. DeletionIds c new.deletes) (sym is) (su
 less_below : (w new : World) (o : ℕ) → new.next_id ≡ w.next_id → new.deletes ≡ fin.remove w.deletes o → DeletionIds w.next_id w.deletes → DeletionIds new.next_id new.deletes
 less_below w new o n e h = subst (λ c. DeletionIds c new.deletes) (sym n) (subst (DeletionIds w.next_id) (sym e) (λ d x there u m. h d x (left_in w.deletes o d x there).1 u m))
 
-put_below : (w new : World) (o : ℕ) (v : Deletion) → new.next_id ≡ w.next_id → new.deletes ≡ fin.insert w.deletes o v → ((u : ℕ) → Has v.uuids u → u < w.next_id) → DeletionIds w.next_id w.deletes → DeletionIds new.next_id new.deletes
+put_below : (w new : World) (o : ℕ) (v : Deletion) → new.next_id ≡ w.next_id → new.deletes ≡ fin.insert w.deletes o v → ((u : ℕ) → Has v.uuids u → u < w.next_id) → DeletionIds w.next_id w.deletes
+    → DeletionIds new.next_id new.deletes
 put_below w new o v n e mine h = subst (λ c. DeletionIds c new.deletes) (sym n) (subst (DeletionIds w.next_id) (sym e) (λ d x there u m. elim (was_in w.deletes o v d x there) [
   | inl z ↦ mine u (subst (λ (y : Deletion). Has y.uuids u) (sym z.1) m)
   | inr z ↦ h d x z.1 u m
@@ -110,7 +109,7 @@ module _ (f : Formats) (w : World) (shelf : List Shelved) (l : Law f w shelf) wh
   known_below u (inl h) = subst (λ x. x < w.next_id) h.2 (l.ids.root.snapshots h.0 h.1)
   known_below u (inr h) = subst (λ x. x < w.next_id) h.3 (l.ids.ops h.0 h.1 h.2).uuid
 
-  chosen : (b : Bool) (a c : Deletions) → ((if b then a else c) ≡ a) ⊎ ((if b then a else c) ≡ c)
+  chosen : (b : Bool) (a c : Deletes) → ((if b then a else c) ≡ a) ⊎ ((if b then a else c) ≡ c)
   chosen true a c = inl refl
   chosen false a c = inr refl
 

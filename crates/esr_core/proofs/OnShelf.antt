@@ -1,5 +1,5 @@
 -- What a restore's ticket has read of its shard are the files of the shelf.
-use Rattle.std.proofs.Common.{◌≡◌, ℕ, suc, ◌+◌, List, [], ◌∷◌, map, refl, sym, ap, ◌∙◌, subst}
+use Rattle.std.proofs.Common.{◌≡◌, ℕ, ◌+◌, List, [], ◌∷◌, map, refl, sym, ap, ◌∙◌, subst}
 use Rattle.std.specs.Prelude.{length, sum_by, min, ◌-◌, ◌^◌}
 use Rattle.std.proofs.lemmas.List.Sums.{sum_by-cons}
 use Rattle.esr_model.specs.Names.{BlobName, ShardSnap}
@@ -12,7 +12,7 @@ use Rattle.esr_core.specs.Ids.{Law}
 use Rattle.esr_core.specs.Allowed.{RestoredBy}
 use Rattle.esr_core.specs.ReadLaw.{ReaderLaw, ReadLaw, IsOnShelf}
 use Rattle.esr_core.specs.Laws.OneValue.{reads_one, held_one}
-use Rattle.esr_model.specs.Lists.{AllPairs-map}
+use Rattle.esr_model.specs.Lists.{AllPairs-map, pairs_length}
 use Rattle.esr_core.specs.Laws.BlobFrames.{reads_kept, file_kept}
 use Rattle.esr_core.proofs.Determined.{file_one}
 use Rattle.esr_core.proofs.Shelving.{shelved_one}
@@ -31,12 +31,6 @@ contents_one f has func index number (e ∷ es) [] files h k = absurd h
 contents_one f has func index number (e ∷ es) (c ∷ contents) [] h k = absurd k
 contents_one f has func index number (e ∷ es) (c ∷ contents) (y ∷ files) h k = λ i. file_one f has func index number e c y.1 h.0 k.0.1 i ∷ contents_one f has func index number es contents files h.1 k.1 i
 
-pairs_length : {A B : Type 0} (R : A → B → Type 0) (xs : List A) (ys : List B) → AllPairs R xs ys → length xs ≡ length ys
-pairs_length R [] [] h = refl
-pairs_length R [] (y ∷ ys) h = absurd h
-pairs_length R (x ∷ xs) [] h = absurd h
-pairs_length R (x ∷ xs) (y ∷ ys) h = ap suc (pairs_length R xs ys h.1)
-
 lengths : (files : List (Bytes × Bytes)) → sum_by (λ (b : Bytes). length b) (map (λ (file : Bytes × Bytes). file.1) files) ≡ sum_by (λ (file : Bytes × Bytes). length file.1) files
 lengths [] = refl
 lengths (y ∷ files) =
@@ -54,7 +48,8 @@ module _ (f : Formats) (w : World) (shelf : List Shelved) (l : Law f w shelf) (r
 
   -- the snapshot of the shard that it read is the one that stands
   snap_same : s.found.stands.snap ≡ by.snap
-  snap_same = reads_one (HeldIn f w) (held_one f w) (ShardSnap q.index q.number q.uuid) f.shard_snap s.found.stands.snap by.snap (serves_snap f w shelf q s) (reads_kept f (WasRead q.read) (HeldIn f w) keeps (ShardSnap q.index q.number q.uuid) f.shard_snap by.snap by.snap_read)
+  snap_same = reads_one (HeldIn f w) (held_one f w) (ShardSnap q.index q.number q.uuid) f.shard_snap s.found.stands.snap by.snap
+      (serves_snap f w shelf q s) (reads_kept f (WasRead q.read) (HeldIn f w) keeps (ShardSnap q.index q.number q.uuid) f.shard_snap by.snap by.snap_read)
 
   files : AllPairs (IsFile f (HeldIn f w) q.index q.number) by.snap.files s.found.shard.files
   files = subst (λ (x : ShardSnapshot). AllPairs (IsFile f (HeldIn f w) q.index q.number) x.files s.found.shard.files) snap_same

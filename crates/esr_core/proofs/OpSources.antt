@@ -180,7 +180,8 @@ module _ (p : Option ℕ → Type 0) where
   left_ops w name None None = refl
   left_ops w name (Some b) now = refl
 
-  asked_fault : (f : Formats) (w : World) (k : ℕ) (command : Asked) (image : Option Image) (b : Bool) → Opens p (AskStep command) → SourcesAre p w.ops → SourcesAre p (if b then fallen f w (done_step f w k (AskStep command) HasEnded image) image else w).ops
+  asked_fault : (f : Formats) (w : World) (k : ℕ) (command : Asked) (image : Option Image) (b : Bool) → Opens p (AskStep command) → SourcesAre p w.ops
+      → SourcesAre p (if b then fallen f w (done_step f w k (AskStep command) HasEnded image) image else w).ops
   asked_fault f w k command image true opens h = fallen_sources f w (done_step f w k (AskStep command) HasEnded image) image h (step_sources f w k (AskStep command) HasEnded image opens h)
   asked_fault f w k command image false opens h = h
 
@@ -223,5 +224,6 @@ uploads_open (AskStep (Snapshot name indices moment)) other = absurd (other name
 uploads_open (AskStep (Clone source name indices moment (Some taken))) other = some_none taken.source
 uploads_open step other = tt
 
-pub after_no_uploads : (f : Formats) (w : World) (m : Moment) → AsksNoSnapshot m.entry.step → SourcesAre (λ (source : Option ℕ). source ≡ None → ⊥) w.ops → SourcesAre (λ (source : Option ℕ). source ≡ None → ⊥) (after f w m).ops
+pub after_no_uploads : (f : Formats) (w : World) (m : Moment) → AsksNoSnapshot m.entry.step → SourcesAre (λ (source : Option ℕ). source ≡ None → ⊥) w.ops
+    → SourcesAre (λ (source : Option ℕ). source ≡ None → ⊥) (after f w m).ops
 after_no_uploads f w m other h = after_sources (λ (source : Option ℕ). source ≡ None → ⊥) f w m (uploads_open m.entry.step other) h

@@ -35,7 +35,8 @@ root_carries f has func root shelf s ops index shard g is none own =
           subst (λ i. ListsAs f has i shard g snap.uuid) shard_of.index_is (subst (λ n. ListsAs f has shard_of.place.0.id n g snap.uuid) shard_of.shard_is as_listed);
     }
 
-pub opening_sound : (f : Formats) (blobs : Blobs) (cluster : ClusterRecord) (root : RootData) (shelf : List Shelved) → KeptAt f blobs cluster.ledger shelf → RootIs f (At f blobs) cluster.ledger.safe root → Sound f (opened blobs cluster root) shelf
+pub opening_sound : (f : Formats) (blobs : Blobs) (cluster : ClusterRecord) (root : RootData) (shelf : List Shelved) → KeptAt f blobs cluster.ledger shelf → RootIs f (At f blobs) cluster.ledger.safe root
+    → Sound f (opened blobs cluster root) shelf
 opening_sound f blobs cluster root shelf k is =
     let ledger : Ledger = cluster.ledger in
     let lift : (m : BlobName) (b : Bytes) → At f blobs m b → Safely f blobs [] m b = λ m b h. (h, λ d. d) in

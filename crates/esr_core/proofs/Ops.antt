@@ -21,7 +21,8 @@ shard_law_on f has root ops now k t index shard l there base =
     record { op = l.op; op_there = there; uuid_is = l.uuid_is; source_is = l.source_is; s = l.s; s_there = l.s_there; state = l.state; index_is = l.index_is; shard_is = l.shard_is; base = base; ids = l.ids }
 
 -- and where an op is given anew, with the shards as they were that the ticket has
-pub shard_law_given : (f : Formats) (has : BlobName → Bytes → Type 0) (root : RootData) (ops : FinMap nat_cmp Op) (o : ℕ) (op : Op) → fin.get ops o ≡ Some op → (g : ShardWork → ShardWork) (failed : Bool) (k : ℕ) (t : Ticket) (index shard : ℕ)
+pub shard_law_given : (f : Formats) (has : BlobName → Bytes → Type 0) (root : RootData) (ops : FinMap nat_cmp Op) (o : ℕ) (op : Op) → fin.get ops o ≡ Some op
+    → (g : ShardWork → ShardWork) (failed : Bool) (k : ℕ) (t : Ticket) (index shard : ℕ)
     → ShardLaw f has root ops k t index shard → ((z : ShardWork) → Has op.shards z → z.state ≡ Out k → g z ≡ z) → Base f has root (fin.insert ops o (record op { shards = map g op.shards; failed = failed })) index shard t.base
     → ShardLaw f has root (fin.insert ops o (record op { shards = map g op.shards; failed = failed })) k t index shard
 shard_law_given f has root ops o op there g failed k t index shard l stays base = elim (split nat_cmp_total nat_cmp-IsAntisymmetric t.op o) [
@@ -48,8 +49,8 @@ shard_law_given f has root ops o op there g failed k t index shard l stays base 
     now = record op { shards = map g op.shards; failed = failed }
 
 -- the law of an op whose shards are given anew in their places, with what holds of those that are done
-pub op_law_given : (f : Formats) (has : BlobName → Bytes → Type 0) (root : RootData) (op : Op) (g : ShardWork → ShardWork) (failed : Bool) → ((s : ShardWork) → (g s).ref ≡ s.ref) → ((s : ShardWork) → (g s).number ≡ s.number) → OpLaw f has root op
-    → ((z : ShardWork) (r : ShardResult) → Has (map g op.shards) z → z.state ≡ Done r → DoneStands f has op.source op.uuid z r) → OpLaw f has root (record op { shards = map g op.shards; failed = failed })
+pub op_law_given : (f : Formats) (has : BlobName → Bytes → Type 0) (root : RootData) (op : Op) (g : ShardWork → ShardWork) (failed : Bool) → ((s : ShardWork) → (g s).ref ≡ s.ref) → ((s : ShardWork) → (g s).number ≡ s.number)
+    → OpLaw f has root op → ((z : ShardWork) (r : ShardResult) → Has (map g op.shards) z → z.state ≡ Done r → DoneStands f has op.source op.uuid z r) → OpLaw f has root (record op { shards = map g op.shards; failed = failed })
 op_law_given f has root op g failed ref number l done =
     record {
       places = places_now op.shards ∙ l.places;

@@ -33,8 +33,11 @@ pub done_snap : (f : Formats) (has : BlobName → Bytes → Type 0) (root : Root
     → (index shard u : ℕ) → op.uuid ≡ u → HasShard op index shard → (v : ShardSnapshot) × Reads has (ShardSnap index shard u) f.shard_snap v
 done_snap f has root op results law done index shard u same h =
     let (r, state, r_there) = done_of op.shards results done h.0 h.1 in
-    let d : DoneStands f has op.source op.uuid h.0 r = law.done h.0 r h.1 state in
-    (d.snap, subst (λ x. Reads has (ShardSnap index shard x) f.shard_snap d.snap) same (subst (λ x. Reads has (ShardSnap index x op.uuid) f.shard_snap d.snap) h.3 (subst (λ x. Reads has (ShardSnap x h.0.number op.uuid) f.shard_snap d.snap) h.2 d.snap_reads)))
+    let d : DoneStands f has op.source op.uuid h.0 r = law.done h.0 r h.1 state in (
+      d.snap,
+      subst (λ x. Reads has (ShardSnap index shard x) f.shard_snap d.snap) same
+          (subst (λ x. Reads has (ShardSnap index x op.uuid) f.shard_snap d.snap) h.3 (subst (λ x. Reads has (ShardSnap x h.0.number op.uuid) f.shard_snap d.snap) h.2 d.snap_reads)),
+    )
 
 -- an index that stands stands in the root with the op's snapshot
 pub stands_on : (f : Formats) (has : BlobName → Bytes → Type 0) (root new : RootData) (ops : FinMap nat_cmp Op) (o : ℕ) (op : Op) (results : List ShardResult) → fin.get ops o ≡ Some op → OpLaw f has root op → AllDone op.shards results

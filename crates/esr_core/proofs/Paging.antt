@@ -1,12 +1,12 @@
 -- What a cleanup lists, and that a page more keeps the law.
-use Rattle.std.proofs.Common.{◌≡◌, ◌≢◌, ◌⊎◌, ℕ, ◌<◌, List, [], ◌∷◌, ◌++◌, Option, Some, None, refl, sym, ap, ◌∙◌, subst, inl, inr}
+use Rattle.std.proofs.Common.{◌≡◌, ◌≢◌, ◌⊎◌, ℕ, ◌<◌, List, [], ◌∷◌, ◌++◌, Some, refl, sym, ap, ◌∙◌, subst, inl, inr}
 use Rattle.std.specs.FinMap as fin
 use Rattle.std.proofs.lemmas.Option.{same_Some}
 use Rattle.esr_model.specs.Names.{BlobName, Root, Latest, Snap, Meta, IndexMeta, ShardSnap, ShardIndex, File, Part, TestMaster, TestNode}
 use Rattle.esr_model.specs.Values.{Bytes, Ledger, ReadsBack, Formats}
 use Rattle.esr_model.specs.Shelf.{Shelved}
 use Rattle.esr_model.specs.Kept.{IdsBelow}
-use Rattle.esr_model.specs.Cleanup.{BlobSize, and_name, names_listed, is_short}
+use Rattle.esr_model.specs.Cleanup.{BlobSize, names_listed, is_short}
 use Rattle.esr_model.specs.Image.{Blobs, Has, Present, KeptBy}
 use Rattle.esr_core.specs.World.{World, Ticket, HeldIn, ledger_of}
 use Rattle.esr_core.specs.Steps.{ListMore, listing}
@@ -14,34 +14,11 @@ use Rattle.esr_core.specs.Swaps.{TicketLaw}
 use Rattle.esr_core.specs.Sound.{Sound}
 use Rattle.esr_core.specs.Ids.{Law, TicketIds}
 use Rattle.esr_model.specs.Lists.{Has-either}
+use Rattle.esr_core.specs.Laws.CleanupReach.{and_first, and_later, listed_was}
 use Rattle.esr_core.proofs.Same.{SameTicket, notes_same}
 use Rattle.esr_core.proofs.Law.{quiet}
 
 -- ---- the names of what was listed
-
-was_and : (o : Option BlobName) (names : List BlobName) (name : BlobName) → Has (and_name o names) name → (o ≡ Some name) ⊎ Has names name
-was_and None names name m = inr m
-was_and (Some x) names name (inl e) = inl (ap (λ (y : BlobName). Some y) e)
-was_and (Some x) names name (inr m) = inr m
-
-and_first : (o : Option BlobName) (names : List BlobName) (name : BlobName) → o ≡ Some name → Has (and_name o names) name
-and_first None names name e = absurd (never e)
-  where
-    never : ◌≡◌ {A = Option BlobName} None (Some name) → ⊥
-    never e = cc
-and_first (Some x) names name e = inl (same_Some x name e)
-
-and_later : (o : Option BlobName) (names : List BlobName) (name : BlobName) → Has names name → Has (and_name o names) name
-and_later None names name m = m
-and_later (Some x) names name m = inr m
-
--- each is that of a blob
-pub listed_was : (f : Formats) (xs : List BlobSize) (name : BlobName) → Has (names_listed f xs) name → (b : BlobSize) × Has xs b × (f.names.read b.text ≡ Some name)
-listed_was f [] name m = absurd m
-listed_was f (b ∷ xs) name m = elim (was_and (f.names.read b.text) (names_listed f xs) name m) [
-  | inl e ↦ (b, inl refl, e)
-  | inr later ↦ let (c, there, e) = listed_was f xs name later in (c, inr there, e)
-]
 
 pub listed_has : (f : Formats) (xs : List BlobSize) (b : BlobSize) (name : BlobName) → Has xs b → f.names.read b.text ≡ Some name → Has (names_listed f xs) name
 listed_has f [] b name m e = absurd m
@@ -69,8 +46,8 @@ latest_or (TestMaster v) = inr (λ e. cc)
 latest_or (TestNode v n) = inr (λ e. cc)
 
 -- a text that is there and reads as a name is that name's
-pub text_named : (f : Formats) (has : BlobName → Bytes → Type 0) (blobs : Blobs) (ledger : Ledger) (shelf : List Shelved) → KeptBy f has blobs ledger shelf → (text bytes : Bytes) → fin.get blobs text ≡ Some bytes → (name : BlobName) → f.names.read text ≡ Some name
-    → (f.names.text name ≡ text) × ReadsBack f.names name
+pub text_named : (f : Formats) (has : BlobName → Bytes → Type 0) (blobs : Blobs) (ledger : Ledger) (shelf : List Shelved) → KeptBy f has blobs ledger shelf → (text bytes : Bytes) → fin.get blobs text ≡ Some bytes → (name : BlobName)
+    → f.names.read text ≡ Some name → (f.names.text name ≡ text) × ReadsBack f.names name
 text_named f has blobs ledger shelf kept text bytes there name e =
     let (own, text_is, back) = kept.named text bytes there in
     let same : own ≡ name = same_Some own name (sym back ∙ ap f.names.read text_is ∙ e) in

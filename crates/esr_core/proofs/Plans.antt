@@ -56,8 +56,8 @@ bytes_there (blob ∷ read) p b e = elim (cases_Bool (is_index p.index p.number 
 ]
 
 -- what was read of a shard reads so where all that was read is there
-pub shard_reads : (f : Formats) (has : BlobName → Bytes → Type 0) (read : List (BlobName × Bytes)) → ((name : BlobName) (bytes : Bytes) → Has read (name, bytes) → has name bytes) → (p : PrunedShard) (was : ShardFiles) → files_read f read p ≡ Some was
-    → Reads has (ShardIndex p.index p.number p.base) f.shard_index was
+pub shard_reads : (f : Formats) (has : BlobName → Bytes → Type 0) (read : List (BlobName × Bytes)) → ((name : BlobName) (bytes : Bytes) → Has read (name, bytes) → has name bytes) → (p : PrunedShard) (was : ShardFiles)
+    → files_read f read p ≡ Some was → Reads has (ShardIndex p.index p.number p.base) f.shard_index was
 shard_reads f has read held p was e = go (index_bytes read p) refl e
   where
     go : (o : Option Bytes) → index_bytes read p ≡ o → files_by f o ≡ Some was → Reads has (ShardIndex p.index p.number p.base) f.shard_index was
@@ -78,7 +78,8 @@ first_text name own text a b rest apart later (inr m) (inl h) = absurd (apart a 
 first_text name own text a b rest apart later (inr m) (inr n) = later m n
 
 -- the id of the first lies below those of the rest
-first_apart : (f : Formats) (read : List (BlobName × Bytes)) (left : List ℕ) (shards : List PrunedShard) (next i k : ℕ) (name : BlobName) (x : Bytes) → ShardIndex i k next ≡ name → Has (pruned_blobs f read left (suc next) shards) (name, x) → ⊥
+first_apart : (f : Formats) (read : List (BlobName × Bytes)) (left : List ℕ) (shards : List PrunedShard) (next i k : ℕ) (name : BlobName) (x : Bytes) → ShardIndex i k next ≡ name → Has (pruned_blobs f read left (suc next) shards) (name, x)
+    → ⊥
 first_apart f read left shards next i k name x is m =
     let r = own_is f read left shards (suc next) name x m in
     let same : next ≡ r.id = index_id_is (is ∙ r.name_is) in
@@ -117,7 +118,8 @@ fresh_in_draw f read left shards next i k g e =
 below_more : (n first c : ℕ) → n < first → n < first + c
 below_more n first c lt = omega (arith, lt)
 
-pub plan_within : (f : Formats) (root : RootData) → IsOneEach root.indices → (uuids : List ℕ) (shards : List PrunedShard) (first : ℕ) → AreOfRoot root shards → RootIds root first → IsWithin root (deleted_root root uuids shards first) (first + kept_count shards)
+pub plan_within : (f : Formats) (root : RootData) → IsOneEach root.indices → (uuids : List ℕ) (shards : List PrunedShard) (first : ℕ) → AreOfRoot root shards → RootIds root first
+    → IsWithin root (deleted_root root uuids shards first) (first + kept_count shards)
 plan_within f root one uuids shards first of_root ids =
     record {
       shrinks = record {
@@ -191,7 +193,10 @@ module _ (f : Formats) (w : World) (shelf : List Shelved) (l : Law f w shelf) (k
       }
 
   pub plan_draw : (new : World)
-      → new ≡ record w { next_id = w.next_id + kept_count shards; tickets = fin.insert w.tickets k (record p.t { first = w.next_id; drawn = kept_count shards; work = Deleting p.uuids (Some (delete_swap f p.t.clean p.t.root p.t.read p.uuids shards w.next_id)) }) }
+      → new ≡ record w {
+        next_id = w.next_id + kept_count shards;
+        tickets = fin.insert w.tickets k (record p.t { first = w.next_id; drawn = kept_count shards; work = Deleting p.uuids (Some (delete_swap f p.t.clean p.t.root p.t.read p.uuids shards w.next_id)) });
+      }
       → DrawPlan f w k (kept_count shards) new
   plan_draw new is =
       record {
@@ -226,7 +231,8 @@ module _ (f : Formats) (w : World) (shelf : List Shelved) (l : Law f w shelf) (k
       }
     where
       by_mode : (b : Bool) → p.t.clean ≡ b
-          → ((p.t.clean ≡ false) × ((s : RootSnap) → Has p.t.root.snapshots s → names_uuid (p.uuids ++ unlisted_read f (uuids_of p.t.root) p.t.read) s.uuid ≡ names_uuid p.uuids s.uuid) × (commands_by p.t.clean p.uuids ≡ Delete p.uuids ∷ []))
+          → ((p.t.clean ≡ false) × ((s : RootSnap) → Has p.t.root.snapshots s → names_uuid (p.uuids ++ unlisted_read f (uuids_of p.t.root) p.t.read) s.uuid ≡ names_uuid p.uuids s.uuid)
+          × (commands_by p.t.clean p.uuids ≡ Delete p.uuids ∷ []))
           ⊎ ((p.t.clean ≡ true) × (commands_by p.t.clean p.uuids ≡ []) × ((s : RootSnap) → Has p.t.root.snapshots s → names_uuid (p.uuids ++ unlisted_read f (uuids_of p.t.root) p.t.read) s.uuid ≡ false))
       by_mode false is = inl (is, (λ s m. same_named f p.t.root p.uuids p.t.read s m), ap (λ (b : Bool). commands_by b p.uuids) is)
       by_mode true is = inr (is, ap (λ (b : Bool). commands_by b p.uuids) is, (λ s m. same_named f p.t.root p.uuids p.t.read s m ∙ ap (λ (us : List ℕ). names_uuid us s.uuid) (p.deleting.bare is)))

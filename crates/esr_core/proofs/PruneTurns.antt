@@ -44,7 +44,8 @@ module _ (f : Formats) (w : World) (shelf : List Shelved) (l : Law f w shelf) wh
   root_once = root_one_each f (HeldIn f w) w.safe w.root l.lawful.sound.carried.root_is
 
   -- of a delete of the present term, before its settle
-  law_of : (k : ℕ) (t : Ticket) (uuids : List ℕ) (plan : Option Swap) → fin.get w.tickets k ≡ Some t → t.out ≡ true → t.settled ≡ false → t.term ≡ w.term → t.work ≡ Deleting uuids plan → DeleteLaw w.root w.ops w.deletes t plan
+  law_of : (k : ℕ) (t : Ticket) (uuids : List ℕ) (plan : Option Swap) → fin.get w.tickets k ≡ Some t → t.out ≡ true → t.settled ≡ false → t.term ≡ w.term → t.work ≡ Deleting uuids plan
+      → DeleteLaw w.root w.ops w.deletes t plan
   law_of k t uuids plan there out uns pres work = l.lawful.queue.deleting k t there out uns pres uuids plan work
 
   -- ---- it fetches
@@ -319,7 +320,8 @@ prune_turn f w shelf l i who prune reply (Planning k shards im p fits back same)
     plain f w k (PruneStep (PlanShards shards)) (DrawnFrom w.next_id) _
     (DrawsPlan _ k (kept_count shards) (plan_draw f w shelf l k shards i p fits back _
     ((λ j. record (record (with_given w k (planned f shards w.next_id) (p.deleting.out.there j)) { next_id = w.next_id + kept_count shards }) { blobs = i.blobs })
-    ∙ (λ j. record w { next_id = w.next_id + kept_count shards; tickets = fin.insert w.tickets k (record p.t { first = w.next_id; drawn = kept_count shards; work = planned_work f p.t shards w.next_id (p.deleting.work j) }); blobs = kept j })))) refl refl
+    ∙ (λ j. record w { next_id = w.next_id + kept_count shards; tickets = fin.insert w.tickets k (record p.t { first = w.next_id; drawn = kept_count shards; work = planned_work f p.t shards w.next_id (p.deleting.work j) }); blobs = kept j }))))
+    refl refl
 prune_turn f w shelf l i who prune reply (PlanSpent k shards im p spent same) = stays f w k (PruneStep (PlanShards shards)) _ (Some i) same refl
 prune_turn f w shelf l i who prune reply (SettlingDelete k im s present same) = settle_turn f w shelf l k s present i.blobs same
 prune_turn f w shelf l i who prune reply (SettleDeleteStale k im s apart same) = stays f w k (PruneStep SettlePruned) _ (Some i) same refl

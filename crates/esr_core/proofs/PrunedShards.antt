@@ -61,8 +61,8 @@ module _ (f : Formats) (read : List (BlobName × Bytes)) (clean : Bool) (uuids l
 
   -- ---- of all indices
 
-  pub has_of_indices : (xs : List RootIndex) (x : RootIndex) → Has xs x → is_touched clean uuids x.snapshots ≡ true → has_none (left_uuids uuids x.snapshots) ≡ false → (place base : ℕ) (was : ShardFiles) → at_shard x.generations place ≡ Some base
-      → files_read f read (bare_shard x.id place base) ≡ Some was → list_any (is_victim clean uuids listed) was.snapshots ≡ true
+  pub has_of_indices : (xs : List RootIndex) (x : RootIndex) → Has xs x → is_touched clean uuids x.snapshots ≡ true → has_none (left_uuids uuids x.snapshots) ≡ false → (place base : ℕ) (was : ShardFiles)
+      → at_shard x.generations place ≡ Some base → files_read f read (bare_shard x.id place base) ≡ Some was → list_any (is_victim clean uuids listed) was.snapshots ≡ true
       → Has (pruned_of_indices f read clean uuids listed xs) (record { index = x.id; number = place; base = base; kept = list_any (is_left (left_uuids uuids listed)) was.snapshots })
   has_of_indices [] x m named stays place base was at reads victim = absurd m
   has_of_indices (z ∷ xs) x (inl same) named stays place base was at reads victim =
@@ -72,7 +72,8 @@ module _ (f : Formats) (read : List (BlobName × Bytes)) (clean : Bool) (uuids l
       let n : 0 + place ≡ place = omega arith in
       let here : Has (pruned_of_index f read clean uuids listed false z.id 0 z.generations (pruned_of_indices f read clean uuids listed xs)) (q z.id) =
       subst
-      (λ (k : ℕ). Has (pruned_of_index f read clean uuids listed false z.id 0 z.generations (pruned_of_indices f read clean uuids listed xs)) (record { index = z.id; number = k; base = base; kept = list_any (is_left (left_uuids uuids listed)) was.snapshots }))
+      (λ (k : ℕ). Has (pruned_of_index f read clean uuids listed false z.id 0 z.generations (pruned_of_indices f read clean uuids listed xs))
+      (record { index = z.id; number = k; base = base; kept = list_any (is_left (left_uuids uuids listed)) was.snapshots }))
       n
       (has_of_index z.id 0 place base z.generations was (pruned_of_indices f read clean uuids listed xs) (ap (λ (y : RootIndex). at_shard y.generations place) same ∙ at)
       ((λ j. files_read f read (bare_shard (same j).id (n j) base)) ∙ reads) victim) in

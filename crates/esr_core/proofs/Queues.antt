@@ -85,7 +85,14 @@ module _ (term : ℕ) (tickets : Tickets) (k : ℕ) (t v : Ticket) (there : fin.
   master_of : (j : ℕ) (u : Ticket) → fin.get (fin.insert tickets k v) j ≡ Some u → u.out ≡ true → IsMaster u.work → u.term ≡ term
       → (b : Ticket) × (fin.get tickets j ≡ Some b) × (b.out ≡ true) × IsMaster b.work × (b.term ≡ term) × (b.op ≡ u.op)
   master_of j u e out m pres = elim (was_in tickets k v j u e) [
-    | inl z ↦ (t, ap (fin.get tickets) z.0 ∙ there, like.out (ap (λ (x : Ticket). x.out) z.1 ∙ out), like.master (subst (λ (x : Ticket). IsMaster x.work) (sym z.1) m), sym like.term ∙ ap (λ (x : Ticket). x.term) z.1 ∙ pres, sym like.op ∙ ap (λ (x : Ticket). x.op) z.1)
+    | inl z ↦ (
+      t,
+      ap (fin.get tickets) z.0 ∙ there,
+      like.out (ap (λ (x : Ticket). x.out) z.1 ∙ out),
+      like.master (subst (λ (x : Ticket). IsMaster x.work) (sym z.1) m),
+      sym like.term ∙ ap (λ (x : Ticket). x.term) z.1 ∙ pres,
+      sym like.op ∙ ap (λ (x : Ticket). x.op) z.1,
+    )
     | inr z ↦ (u, z.1, out, m, pres, refl)
   ]
 
@@ -100,7 +107,8 @@ module _ (term : ℕ) (tickets : Tickets) (k : ℕ) (t v : Ticket) (there : fin.
             let (b, b_there, b_out, b_master, b_pres, b_op) = master_of j u e out m pres in
             q.sole j b b_there b_out b_master b_pres x (ap (fin.get deletes) b_op ∙ there) clean i a a_out.0 a_out.1;
         deleting = λ j u e out uns pres uuids plan is. elim (was_in tickets k v j u e) [
-          | inl h ↦ subst (λ x. DeleteLaw root ops deletes x plan) h.1 (del (ap (λ (x : Ticket). x.out) h.1 ∙ out) (ap (λ (x : Ticket). x.settled) h.1 ∙ uns) (ap (λ (x : Ticket). x.term) h.1 ∙ pres) uuids plan (ap (λ (x : Ticket). x.work) h.1 ∙ is))
+          | inl h ↦ subst (λ x. DeleteLaw root ops deletes x plan) h.1
+              (del (ap (λ (x : Ticket). x.out) h.1 ∙ out) (ap (λ (x : Ticket). x.settled) h.1 ∙ uns) (ap (λ (x : Ticket). x.term) h.1 ∙ pres) uuids plan (ap (λ (x : Ticket). x.work) h.1 ∙ is))
           | inr h ↦ q.deleting j u h.1 out uns pres uuids plan is
         ];
         drops = λ j u e out pres is. elim (was_in tickets k v j u e) [
@@ -171,14 +179,16 @@ module _ (term : ℕ) (tickets : Tickets) (k : ℕ) (v : Ticket) where
           ]
           | inr x ↦ elim (was_in tickets k v j b.t b.there) [
             | inl y ↦ absurd (idle (subst (λ (z : Ticket). IsMaster z.work) (sym y.1) b.swaps) i (record { t = a.t; there = x.1; out = a.out; unsettled = a.unsettled; present = a.present; swaps = a.swaps }))
-            | inr y ↦ q.one_swap i j (record { t = a.t; there = x.1; out = a.out; unsettled = a.unsettled; present = a.present; swaps = a.swaps }) (record { t = b.t; there = y.1; out = b.out; unsettled = b.unsettled; present = b.present; swaps = b.swaps })
+            | inr y ↦
+                q.one_swap i j (record { t = a.t; there = x.1; out = a.out; unsettled = a.unsettled; present = a.present; swaps = a.swaps }) (record { t = b.t; there = y.1; out = b.out; unsettled = b.unsettled; present = b.present; swaps = b.swaps })
           ]
         ];
       })
 
 -- what becomes of an op: its shards one by one
 pub record Evolves (old op : Op) : Type 0 where
-  pub shards : (z : ShardWork) → Has op.shards z → (s : ShardWork) × Has old.shards s × (s.ref.id ≡ z.ref.id) × (s.number ≡ z.number) × (Idle s.state → Idle z.state) × (z.state ≡ Pending → s.state ≡ Pending) × (z.state ≡ GivenUp → (s.state ≡ GivenUp) ⊎ (op.failed ≡ true))
+  pub shards : (z : ShardWork) → Has op.shards z → (s : ShardWork) × Has old.shards s × (s.ref.id ≡ z.ref.id) × (s.number ≡ z.number)
+      × (Idle s.state → Idle z.state) × (z.state ≡ Pending → s.state ≡ Pending) × (z.state ≡ GivenUp → (s.state ≡ GivenUp) ⊎ (op.failed ≡ true))
   pub failed : old.failed ≡ true → op.failed ≡ true
   pub stopped : Stopped old → Stopped op
   pub source : op.source ≡ old.source
@@ -270,7 +280,8 @@ module _ (term : ℕ) (root : RootData) (ops : Ops) (deletes : Deletes) (complet
       }
 
   -- the root changes, where no swap is out
-  pub queue_root : (new : RootData) → ((k : ℕ) → SwapIsOut tickets term k → ⊥) → ((o : ℕ) (op : Op) (u : ℕ) → fin.get ops o ≡ Some op → op.source ≡ Some u → Lists new u) → Queue term new ops deletes completed next_op tickets
+  pub queue_root : (new : RootData) → ((k : ℕ) → SwapIsOut tickets term k → ⊥) → ((o : ℕ) (op : Op) (u : ℕ) → fin.get ops o ≡ Some op → op.source ≡ Some u → Lists new u)
+      → Queue term new ops deletes completed next_op tickets
   queue_root new idle listed =
       with_tickets term term root new ops deletes completed next_op tickets tickets q (record {
         sources = λ o op u e is. (listed o op u e is, (q.sources o op u e is).1);
@@ -295,7 +306,8 @@ module _ (term : ℕ) (root : RootData) (ops : Ops) (deletes : Deletes) (complet
   pub queue_add : (op : Op) (completed_now : List ℕ) → ((s : ShardWork) → Has op.shards s → s.state ≡ Pending) → ((o : ℕ) → Has completed o → Has completed_now o)
       → ((results : List ShardResult) → AllDone op.shards results → Has completed_now next_op)
       → ((o : ℕ) → Has completed_now o → Has completed o ⊎ ((o ≡ next_op) × ((results : List ShardResult) × AllDone op.shards results))) → ((d : ℕ) (x : Deletion) → fin.get deletes d ≡ Some x → x.clean ≡ true → ⊥)
-      → ((u : ℕ) → op.source ≡ Some u → Lists root u × ((d : ℕ) (x : Deletion) → fin.get deletes d ≡ Some x → names_uuid x.uuids u ≡ false)) → Queue term root (fin.insert ops next_op op) deletes completed_now (suc next_op) tickets
+      → ((u : ℕ) → op.source ≡ Some u → Lists root u × ((d : ℕ) (x : Deletion) → fin.get deletes d ≡ Some x → names_uuid x.uuids u ≡ false))
+      → Queue term root (fin.insert ops next_op op) deletes completed_now (suc next_op) tickets
   queue_add op completed_now pending more mine was no_clean source =
       record {
         numbers = λ o a e. elim (was_in ops next_op op o a e) [ inl h ↦ omega (arith, h.0) | inr h ↦ let b : o < next_op = q.numbers o a h.1 in omega arith ];
@@ -398,8 +410,8 @@ module _ (term : ℕ) (root : RootData) (ops : Ops) (deletes : Deletes) (complet
       }
 
   -- a delete given anew, which no ticket of the present term has
-  pub queue_delete : (d : ℕ) (old x : Deletion) → fin.get deletes d ≡ Some old → x.clean ≡ old.clean → (old.failed ≡ true → x.failed ≡ true) → ((k : ℕ) → SwapIsOut tickets term k → (t : Ticket) → fin.get tickets k ≡ Some t → t.op ≢ d)
-      → ((o : ℕ) (op : Op) (u : ℕ) → fin.get ops o ≡ Some op → op.source ≡ Some u → names_uuid x.uuids u ≡ false)
+  pub queue_delete : (d : ℕ) (old x : Deletion) → fin.get deletes d ≡ Some old → x.clean ≡ old.clean → (old.failed ≡ true → x.failed ≡ true)
+      → ((k : ℕ) → SwapIsOut tickets term k → (t : Ticket) → fin.get tickets k ≡ Some t → t.op ≢ d) → ((o : ℕ) (op : Op) (u : ℕ) → fin.get ops o ≡ Some op → op.source ≡ Some u → names_uuid x.uuids u ≡ false)
       → Queue term root ops (fin.insert deletes d x) completed next_op tickets
   queue_delete d old x there clean failed swaps spares =
       record {

@@ -100,7 +100,8 @@ module _ (safe pending term : ℕ) (tickets : FinMap nat_cmp Ticket) (l : Ranks 
 
   -- the generation that a swap raised becomes the safe one, where no other swap is out
   ranks_settle : (k n : ℕ) (t : Ticket) → fin.get tickets k ≡ Some t → t.raised ≡ Some n
-      → ((j : ℕ) (u : Ticket) → j ≢ k → fin.get tickets j ≡ Some u → u.out ≡ true → u.settled ≡ false → u.term ≡ term → IsMaster u.work → ⊥) → Ranks (suc n) pending term (fin.insert tickets k (record t { settled = true }))
+      → ((j : ℕ) (u : Ticket) → j ≢ k → fin.get tickets j ≡ Some u → u.out ≡ true → u.settled ≡ false → u.term ≡ term → IsMaster u.work → ⊥)
+      → Ranks (suc n) pending term (fin.insert tickets k (record t { settled = true }))
   ranks_settle k n t there is alone =
       record {
         ordered = (let b : n < pending = (l.raised k n t there is).1 in omega (arith, b));
@@ -248,7 +249,8 @@ module _ (f : Formats) (size : ℕ) (w : World) (q : Tracked w) (l : Ranked w) w
 
   -- ---- a clone that is asked
 
-  asks_clone : (source name : Bytes) (names : List Bytes) (time : ℕ) (taken : Option CloneOf) (reply : Reply) (image : Option Image) → CloneAllows f w source name names time taken reply image → Ranked (after f w (moment 0 (AskStep (Clone source name names time taken)) reply image))
+  asks_clone : (source name : Bytes) (names : List Bytes) (time : ℕ) (taken : Option CloneOf) (reply : Reply) (image : Option Image) → CloneAllows f w source name names time taken reply image
+      → Ranked (after f w (moment 0 (AskStep (Clone source name names time taken)) reply image))
   asks_clone source name names time taken reply image (OpeningClone t o im acc) = l
   asks_clone source name names time taken reply image (CloneUsed uuid im clear is) = l
   asks_clone source name names time taken reply image (SourceNotListed im may none) = l

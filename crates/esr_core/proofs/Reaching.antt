@@ -16,7 +16,8 @@ module _ (f : Formats) (has : BlobName → Bytes → Type 0) (root : RootData) w
   reads_used : {V : Type 0} (name : BlobName) (kind : Kind V) (v : V) → Reached f has root name → Reads has name kind v → Reads Used name kind v
   reads_used name kind v r h = record { bytes = h.bytes; there = (h.there, r); reads = h.reads }
 
-  file_used : (i k g : ℕ) (held : ShardFiles) → Generation root i k g → Reads has (ShardIndex i k g) f.shard_index held → (e : FileEntry) → Has held.files e → (bytes : Bytes) → FileStands f has i k e bytes → FileStands f Used i k e bytes
+  file_used : (i k g : ℕ) (held : ShardFiles) → Generation root i k g → Reads has (ShardIndex i k g) f.shard_index held → (e : FileEntry) → Has held.files e → (bytes : Bytes) → FileStands f has i k e bytes
+      → FileStands f Used i k e bytes
   file_used i k g held gen reads e m bytes s =
       record {
         parts = s.parts;
@@ -46,7 +47,8 @@ module _ (f : Formats) (has : BlobName → Bytes → Type 0) (root : RootData) w
         index = s.index;
         index_reads = reads_used _ _ _ (ReachIndex place.0.id place.1 s.generation s.in_root) s.index_reads;
         lists = s.lists;
-        files = AllPairs-with _ _ s.snap.files shard.files (λ e file m h. (h.0, file_used place.0.id place.1 s.generation s.index s.in_root s.index_reads e (entry_there s.index s.snap.files s.lists.list.files s.lists.entries e m) file.1 h.1)) s.files;
+        files =
+            AllPairs-with _ _ s.snap.files shard.files (λ e file m h. (h.0, file_used place.0.id place.1 s.generation s.index s.in_root s.index_reads e (entry_there s.index s.snap.files s.lists.list.files s.lists.entries e m) file.1 h.1)) s.files;
       }
 
   snap_used : (snap : RootSnap) → Has root.snapshots snap → (shelved : Shelved) → SnapStands f has root snap shelved → SnapStands f Used root snap shelved

@@ -64,8 +64,8 @@ module _ (f : Formats) (has : BlobName → Bytes → Type 0) (index number : ℕ
   needed (e ∷ es) [] h = []
   needed (e ∷ es) (y ∷ files) h = zipped (part_names index number e) h.0.1.parts ++ needed es files h.1
 
-  needed_is : (es : List FileEntry) (files : List (Bytes × Bytes)) (h : AllPairs (λ (e : FileEntry) (file : Bytes × Bytes). (e.physical ≡ file.0) × FileStands f has index number e file.1) es files) (n : BlobName) (b : Bytes) → Has (needed es files h) (n, b)
-      → has n b × ((e : FileEntry) × Has es e × Has (part_names index number e) n)
+  needed_is : (es : List FileEntry) (files : List (Bytes × Bytes)) (h : AllPairs (λ (e : FileEntry) (file : Bytes × Bytes). (e.physical ≡ file.0) × FileStands f has index number e file.1) es files) (n : BlobName) (b : Bytes)
+      → Has (needed es files h) (n, b) → has n b × ((e : FileEntry) × Has es e × Has (part_names index number e) n)
   unfolding needed
   needed_is [] files h n b m = absurd m
   needed_is (e ∷ es) [] h n b m = absurd m
@@ -104,7 +104,8 @@ abbrev IsNoTicket : World → ℕ → Type 0
 IsNoTicket w k = (t : Ticket) → fin.get w.tickets k ≡ Some t → ⊥
 
 -- a step that reads leaves the record, and so its text
-legal_one : (f : Formats) (size : ℕ) (w : World) (k : ℕ) (read : Read) (reply : Reply) → IsNewStep w k (ReadStep read) → IsNoTicket w k → w.deposed ≡ false → ReadsBack f.cluster (record_of w) → ReadAllows f w k read reply (Some (image_of f w)) → Allowed f size w (shown f w k read reply)
+legal_one : (f : Formats) (size : ℕ) (w : World) (k : ℕ) (read : Read) (reply : Reply) → IsNewStep w k (ReadStep read) → IsNoTicket w k → w.deposed ≡ false → ReadsBack f.cluster (record_of w)
+    → ReadAllows f w k read reply (Some (image_of f w)) → Allowed f size w (shown f w k read reply)
 legal_one f size w k read reply new none alive back allows =
     let m : Moment = shown f w k read reply in
     record {
@@ -133,12 +134,13 @@ record Going (f : Formats) (w : World) (k : ℕ) (q : Reader) (snap : ShardSnaps
 abbrev read_now : Formats → World → ℕ → Reader → BlobName → Bytes → World
 read_now f w j q name bytes = record (more_read w (suc j) q name bytes) { entries = (shown f w (suc j) (ReadBlob name) WasFetched).entry ∷ w.entries }
 
-fetched_is : (f : Formats) (w : World) (j : ℕ) (q : Reader) (name : BlobName) (bytes : Bytes) → fin.get w.readers (suc j) ≡ Some q → fin.get w.blobs (f.names.text name) ≡ Some bytes → after f w (shown f w (suc j) (ReadBlob name) WasFetched) ≡ read_now f w j q name bytes
+fetched_is : (f : Formats) (w : World) (j : ℕ) (q : Reader) (name : BlobName) (bytes : Bytes) → fin.get w.readers (suc j) ≡ Some q → fin.get w.blobs (f.names.text name) ≡ Some bytes
+    → after f w (shown f w (suc j) (ReadBlob name) WasFetched) ≡ read_now f w j q name bytes
 fetched_is f w j q name bytes there at = λ i. record (read_told w (suc j) name (at i) (there i)) { blobs = w.blobs; entries = (shown f w (suc j) (ReadBlob name) WasFetched).entry ∷ w.entries }
 
 -- one more is fetched
-fetch : (f : Formats) (size : ℕ) (w : World) (j : ℕ) (q : Reader) (name : BlobName) (bytes : Bytes) → IsNewStep w (suc j) (ReadStep (ReadBlob name)) → IsNoTicket w (suc j) → w.deposed ≡ false → ReadsBack f.cluster (record_of w) → IsReading w (suc j) q → At f w.blobs name bytes → MayRead f q name (Some (image_of f w))
-    → CanEnd f size (read_now f w j q name bytes) (suc j) → CanEnd f size w (suc j)
+fetch : (f : Formats) (size : ℕ) (w : World) (j : ℕ) (q : Reader) (name : BlobName) (bytes : Bytes) → IsNewStep w (suc j) (ReadStep (ReadBlob name)) → IsNoTicket w (suc j) → w.deposed ≡ false → ReadsBack f.cluster (record_of w)
+    → IsReading w (suc j) q → At f w.blobs name bytes → MayRead f q name (Some (image_of f w)) → CanEnd f size (read_now f w j q name bytes) (suc j) → CanEnd f size w (suc j)
 fetch f size w j q name bytes new apart alive back reading at may rest =
     let m : Moment = shown f w (suc j) (ReadBlob name) WasFetched in
     record {
@@ -187,7 +189,8 @@ fetched_more f w j q name bytes fetched e m = elim (entry_or_before (shown f w (
   | inr before ↦ let (n, b, is, has) = fetched e before in (n, b, is, inr has)
 ]
 
-were_more : (f : Formats) (w : World) (q : Reader) (name : BlobName) (bytes : Bytes) → At f w.blobs name bytes → ((n : BlobName) (b : Bytes) → Has q.read (n, b) → At f w.blobs n b) → (n : BlobName) (b : Bytes) → Has ((name, bytes) ∷ q.read) (n, b) → At f w.blobs n b
+were_more : (f : Formats) (w : World) (q : Reader) (name : BlobName) (bytes : Bytes) → At f w.blobs name bytes → ((n : BlobName) (b : Bytes) → Has q.read (n, b) → At f w.blobs n b) → (n : BlobName) (b : Bytes)
+    → Has ((name, bytes) ∷ q.read) (n, b) → At f w.blobs n b
 were_more f w q name bytes at were n b (inl same) = subst (λ (p : BlobName × Bytes). At f w.blobs p.0 p.1) same at
 were_more f w q name bytes at were n b (inr has) = were n b has
 
@@ -197,14 +200,15 @@ finish f size j snap [] need contents w q g =
       front = [];
       last = shown f w (suc j) (RestoredShard (length snap.files) (min (sum_by (λ (b : Bytes). length b) contents) (2 ^ 64 - 1))) HasEnded;
       legal = (
-        legal_one f size w (suc j) _ HasEnded (λ e m r. let (n, b, is, has) = g.fetched e m in subst (λ (s : Step). Repeats s (ReadStep (RestoredShard (length snap.files) (min (sum_by (λ (b : Bytes). length b) contents) (2 ^ 64 - 1))))) is r) g.apart g.alive g.back (RestoringShard (suc j) (length snap.files) (min (sum_by (λ (b : Bytes). length b) contents) (2 ^ 64 - 1)) (Some (image_of f w)) q g.reading (record {
-          snap = snap;
-          snap_read = g.snap_read;
-          contents = contents;
-          stand = AllPairs-map (λ e b s. file_kept f (λ n c. Has need (n, c)) (WasRead q.read) (λ n c m. elim (g.covered n c m) [ inl none ↦ absurd none | inr has ↦ has ]) q.index q.number e b s) snap.files contents g.stand;
-          count = refl;
-          sum = refl;
-        })),
+        legal_one f size w (suc j) _ HasEnded (λ e m r. let (n, b, is, has) = g.fetched e m in subst (λ (s : Step). Repeats s (ReadStep (RestoredShard (length snap.files) (min (sum_by (λ (b : Bytes). length b) contents) (2 ^ 64 - 1))))) is r)
+            g.apart g.alive g.back (RestoringShard (suc j) (length snap.files) (min (sum_by (λ (b : Bytes). length b) contents) (2 ^ 64 - 1)) (Some (image_of f w)) q g.reading (record {
+              snap = snap;
+              snap_read = g.snap_read;
+              contents = contents;
+              stand = AllPairs-map (λ e b s. file_kept f (λ n c. Has need (n, c)) (WasRead q.read) (λ n c m. elim (g.covered n c m) [ inl none ↦ absurd none | inr has ↦ has ]) q.index q.number e b s) snap.files contents g.stand;
+              count = refl;
+              sum = refl;
+            })),
         tt,
       );
       told = ((image_of f w, refl), tt);
@@ -252,7 +256,8 @@ finish f size j snap ((name, bytes) ∷ todo) need contents w q g =
     ]
 
 -- the snapshot of the shard first, then each part
-begin : (f : Formats) (size : ℕ) (w : World) (shelf : List Shelved) (j : ℕ) (q : Reader) → Law f w shelf → ReadLaw f w → IsNoTicket w (suc j) → w.deposed ≡ false → ReadsBack f.cluster (record_of w) → IsReading w (suc j) q → NoFetchFailed w (suc j) q → CanEnd f size w (suc j)
+begin : (f : Formats) (size : ℕ) (w : World) (shelf : List Shelved) (j : ℕ) (q : Reader) → Law f w shelf → ReadLaw f w → IsNoTicket w (suc j) → w.deposed ≡ false → ReadsBack f.cluster (record_of w) → IsReading w (suc j) q
+    → NoFetchFailed w (suc j) q → CanEnd f size w (suc j)
 begin f size w shelf j q l r apart alive back reading fetched =
     elim (read_or_not f q.read name now.there.0.1.0 (λ n b m. (were n b m).1.0)) [
       | inl found ↦
@@ -309,6 +314,7 @@ begin f size w shelf j q l r apart alive back reading fetched =
     need : List (BlobName × Bytes)
     need = needed f (HeldIn f w) q.index q.number snap.files s.found.shard.files files
 
-pub can_end : (f : Formats) (size : ℕ) (w : World) (shelf : List Shelved) (k : ℕ) (q : Reader) → Law f w shelf → ReadLaw f w → ReadTracked w → w.deposed ≡ false → ReadsBack f.cluster (record_of w) → IsReading w k q → NoFetchFailed w k q → CanEnd f size w k
+pub can_end : (f : Formats) (size : ℕ) (w : World) (shelf : List Shelved) (k : ℕ) (q : Reader) → Law f w shelf → ReadLaw f w → ReadTracked w → w.deposed ≡ false → ReadsBack f.cluster (record_of w) → IsReading w k q
+    → NoFetchFailed w k q → CanEnd f size w k
 can_end f size w shelf zero q l r apart alive back reading fetched = absurd (let b : 1 ≤ 0 = (r.tracked.tickets 0 q reading.there).0 in omega (arith, b))
 can_end f size w shelf (suc j) q l r apart alive back reading fetched = begin f size w shelf j q l r (λ t there. apart.apart.tickets (suc j) q t reading.there there) alive back reading fetched

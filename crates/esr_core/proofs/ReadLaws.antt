@@ -18,11 +18,11 @@ use Rattle.esr_core.specs.Entry.{Entry}
 use Rattle.esr_core.specs.Turns.{OpenRestore, HandShard, ReadMore, EndShard, ReadTurn, OpensRestore, HandsShard, ReadsMore, EndsShard, Calls, Turn, Deposes, Besides, commands_of}
 use Rattle.esr_core.specs.ReadTracked.{ReaderTracked, RestoresTracked}
 use Rattle.esr_core.specs.ReadLaw.{RestoreLaw, IsPartOf, ReaderLaw, ReadLaw}
-use Rattle.esr_model.specs.Lists.{Has-map, pairs_has}
+use Rattle.esr_model.specs.Lists.{Has-map, pairs_has, pairs_both}
 use Rattle.esr_core.specs.Laws.OneValue.{reads_one, held_one}
 use Rattle.esr_core.specs.Laws.BlobFrames.{reads_kept}
 use Rattle.esr_core.specs.Laws.RestoreMaps.{places_mapped, places_begun, LeavesPlace, handed_place, ended_place, put_was}
-use Rattle.esr_core.proofs.ListedInfo.{pairs_both, listed_as, listed_info}
+use Rattle.esr_core.proofs.ListedInfo.{listed_as, listed_info}
 use Rattle.esr_core.specs.Laws.SortedLists.{sorted-Has}
 use Rattle.esr_core.specs.Laws.Maps.{nothing}
 use Rattle.esr_core.proofs.ReadTracking.{tracked_up, tracked_opened, tracked_handed, tracked_more, tracked_ended}
@@ -41,7 +41,8 @@ pub record IsShardOf (f : Formats) (w : World) (shelf : List Shelved) (u : ℕ) 
   pub shard_there : Has shelved.shards shard
   pub stands : ShardStands f (HeldIn f w) w.root u p shard
 
-listed_shard : (f : Formats) (w : World) (shelf : List Shelved) → Law f w shelf → (u : ℕ) → Lists w.root u → (info : SnapInfo) → Reads (HeldIn f w) (Snap u) f.info info → (p : IndexRef × ℕ) → Has (places info.indices) p → IsShardOf f w shelf u p
+listed_shard : (f : Formats) (w : World) (shelf : List Shelved) → Law f w shelf → (u : ℕ) → Lists w.root u → (info : SnapInfo) → Reads (HeldIn f w) (Snap u) f.info info → (p : IndexRef × ℕ) → Has (places info.indices) p
+    → IsShardOf f w shelf u p
 listed_shard f w shelf l u has info reads p m =
     let a = listed_as f w shelf l u has in
     let same : info ≡ a.stands.info = reads_one (HeldIn f w) (held_one f w) (Snap u) f.info info a.stands.info reads (listed_info f w shelf u a) in
@@ -50,7 +51,8 @@ listed_shard f w shelf l u has info reads p m =
     record { shelved = a.shelved; there = a.there; uuid_is = a.stands.uuid_is ∙ a.uuid_is; shard = shard; shard_there = there; stands = subst (λ x. ShardStands f (HeldIn f w) w.root x p shard) a.uuid_is stands }
 
 -- each part of its files is there
-part_held : (f : Formats) (w : World) (u : ℕ) (p : IndexRef × ℕ) (shard : ShelfShard) (s : ShardStands f (HeldIn f w) w.root u p shard) (e : FileEntry) → Has s.snap.files e → (name : BlobName) → Has (part_names p.0.id p.1 e) name → (bytes : Bytes) × HeldIn f w name bytes
+part_held : (f : Formats) (w : World) (u : ℕ) (p : IndexRef × ℕ) (shard : ShelfShard) (s : ShardStands f (HeldIn f w) w.root u p shard) (e : FileEntry) → Has s.snap.files e → (name : BlobName) → Has (part_names p.0.id p.1 e) name
+    → (bytes : Bytes) × HeldIn f w name bytes
 part_held f w u p shard s e m name part =
     let (file, there, h) = pairs_both (λ (x : FileEntry) (y : Bytes × Bytes). (x.physical ≡ y.0) × FileStands f (HeldIn f w) p.0.id p.1 x y.1) s.snap.files shard.files e s.files m in
     pairs_has (HeldIn f w) (part_names p.0.id p.1 e) h.1.parts name h.1.there part
@@ -58,7 +60,8 @@ part_held f w u p shard s e m name part =
 -- ---- the shard that a ticket reads
 
 -- its place is one of the info
-reader_place : (f : Formats) (has : BlobName → Bytes → Type 0) (root : RootData) (deletes : FinMap nat_cmp Deletion) (restores : FinMap nat_cmp Restoring) (k : ℕ) (q : Reader) (t : ReaderTracked restores k q) (law : RestoreLaw f has root deletes t.r)
+reader_place : (f : Formats) (has : BlobName → Bytes → Type 0) (root : RootData) (deletes : FinMap nat_cmp Deletion)
+    (restores : FinMap nat_cmp Restoring) (k : ℕ) (q : Reader) (t : ReaderTracked restores k q) (law : RestoreLaw f has root deletes t.r)
     → (p : IndexRef × ℕ) × Has (places law.info.indices) p × (p.0.id ≡ q.index) × (p.1 ≡ q.number) × (p.0.name ≡ q.name)
 reader_place f has root deletes restores k q t law =
     ((t.s.ref, t.s.number), subst (λ xs. Has xs (t.s.ref, t.s.number)) law.shards (Has-map (λ (s : RestoreShard). (s.ref, s.number)) t.r.shards t.s t.s_there), t.index_is, t.number_is, t.name_is)
@@ -76,7 +79,8 @@ serves_snap f w shelf q s =
     subst (λ x. Reads (HeldIn f w) (ShardSnap x q.number q.uuid) f.shard_snap s.found.stands.snap) s.index_is
     (subst (λ x. Reads (HeldIn f w) (ShardSnap s.place.0.id x q.uuid) f.shard_snap s.found.stands.snap) s.number_is s.found.stands.snap_reads)
 
-pub serves_part : (f : Formats) (w : World) (shelf : List Shelved) (q : Reader) (s : Serves f w shelf q) (e : FileEntry) → Has s.found.stands.snap.files e → (name : BlobName) → Has (part_names q.index q.number e) name → (bytes : Bytes) × HeldIn f w name bytes
+pub serves_part : (f : Formats) (w : World) (shelf : List Shelved) (q : Reader) (s : Serves f w shelf q) (e : FileEntry) → Has s.found.stands.snap.files e → (name : BlobName) → Has (part_names q.index q.number e) name
+    → (bytes : Bytes) × HeldIn f w name bytes
 serves_part f w shelf q s e m name part =
     part_held f w q.uuid s.place s.found.shard s.found.stands e m name
     (subst (λ x. Has (part_names x s.place.1 e) name) (sym s.index_is) (subst (λ x. Has (part_names q.index x e) name) (sym s.number_is) part))
@@ -166,7 +170,8 @@ module _ (f : Formats) (w new : World) (shelf : List Shelved) (l : Law f new she
 
 -- ---- a turn that reads
 
-restore_mapped : (f : Formats) (has : BlobName → Bytes → Type 0) (root : RootData) (deletes : FinMap nat_cmp Deletion) (r : Restoring) (g : RestoreShard → RestoreShard) → LeavesPlace g → RestoreLaw f has root deletes r → RestoreLaw f has root deletes (record r { shards = map g r.shards })
+restore_mapped : (f : Formats) (has : BlobName → Bytes → Type 0) (root : RootData) (deletes : FinMap nat_cmp Deletion) (r : Restoring) (g : RestoreShard → RestoreShard) → LeavesPlace g → RestoreLaw f has root deletes r
+    → RestoreLaw f has root deletes (record r { shards = map g r.shards })
 restore_mapped f has root deletes r g p l = record { listed = l.listed; spared = l.spared; info = l.info; info_reads = l.info_reads; shards = places_mapped g p r.shards ∙ l.shards }
 
 module _ (f : Formats) (w : World) (shelf : List Shelved) (l : Law f w shelf) (r : ReadLaw f w) where

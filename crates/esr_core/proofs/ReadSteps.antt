@@ -139,7 +139,8 @@ module _ (f : Formats) (size : ℕ) (w : World) (t : Tracked w) (l : ReadTracked
         tracked = tracked_ended w.next_op w.next_ticket w.restores w.readers track k q q_there r there state over;
         apart = record {
           ops = λ p x op e ot. elim (put_was w.restores q.op (record r { shards = map (ended k state) r.shards }) p x e) [ inl h ↦ l.apart.ops q.op r op there (ap (fin.get w.ops) (sym h.0) ∙ ot) | inr h ↦ l.apart.ops p x op h.1 ot ];
-          deletes = λ p x y e dt. elim (put_was w.restores q.op (record r { shards = map (ended k state) r.shards }) p x e) [ inl h ↦ l.apart.deletes q.op r y there (ap (fin.get w.deletes) (sym h.0) ∙ dt) | inr h ↦ l.apart.deletes p x y h.1 dt ];
+          deletes =
+              λ p x y e dt. elim (put_was w.restores q.op (record r { shards = map (ended k state) r.shards }) p x e) [ inl h ↦ l.apart.deletes q.op r y there (ap (fin.get w.deletes) (sym h.0) ∙ dt) | inr h ↦ l.apart.deletes p x y h.1 dt ];
           tickets = λ j x u e ticket. elim (was_in w.readers k (record q { out = false }) j x e) [ inl h ↦ l.apart.tickets k q u q_there (ap (fin.get w.tickets) (sym h.0) ∙ ticket) | inr h ↦ l.apart.tickets j x u h.1 ticket ];
         };
         once = l.once;
@@ -311,7 +312,8 @@ module _ (f : Formats) (size : ℕ) (w : World) (t : Tracked w) (l : ReadTracked
   wrote_tracked name (Some bytes) = record { once = record { fetched = l.once.fetched; found = l.once.found; from = l.once.from }; drawn = l.drawn; doomed = λ m has. elim has [ inl e ↦ inl e | inr was ↦ inr (l.doomed m was) ] }
 
   heard_verifies : (read : Read) (reply : Reply) (image : Option Image) → VerifyAllows f w read reply image → Heard 0 read reply image
-  heard_verifies read reply image (DrawingTest im idle fits same) = record { once = record { fetched = l.once.fetched; found = l.once.found; from = l.once.from }; drawn = λ v e. let same_id : w.next_id ≡ v = some_drawn e in omega (arith, same_id); doomed = l.doomed }
+  heard_verifies read reply image (DrawingTest im idle fits same) =
+      record { once = record { fetched = l.once.fetched; found = l.once.found; from = l.once.from }; drawn = λ v e. let same_id : w.next_id ≡ v = some_drawn e in omega (arith, same_id); doomed = l.doomed }
   heard_verifies read reply image (TestSpent im idle spent same) = record { once = record { fetched = l.once.fetched; found = l.once.found; from = l.once.from }; drawn = l.drawn; doomed = l.doomed }
   heard_verifies read reply image (BeginningTest name im own same) = mine
   heard_verifies read reply image (BeginTestFails name im own same) = mine

@@ -151,7 +151,8 @@ module _ (next_op next_ticket : ℕ) (restores : Restores) (readers : Readers) (
             | inr h ↦ read_by p z k (l.held p x z k h.1 m state)
           ];
           distinct = λ p x a b e am bm. elim (was_in restores o now p x e) [
-            | inl h ↦ once_mapped (handed next_ticket s.ref.id s.number) (handed_place next_ticket s.ref.id s.number) r.shards (λ y z. l.distinct o r y z there) a b (subst (λ (y : Restoring). Has y.shards a) (sym h.1) am) (subst (λ (y : Restoring). Has y.shards b) (sym h.1) bm)
+            | inl h ↦ once_mapped (handed next_ticket s.ref.id s.number) (handed_place next_ticket s.ref.id s.number) r.shards
+                (λ y z. l.distinct o r y z there) a b (subst (λ (y : Restoring). Has y.shards a) (sym h.1) am) (subst (λ (y : Restoring). Has y.shards b) (sym h.1) bm)
             | inr h ↦ l.distinct p x a b h.1 am bm
           ];
         }
@@ -172,7 +173,8 @@ module _ (next_op next_ticket : ℕ) (restores : Restores) (readers : Readers) (
           readers = λ j x e out. elim (was_in readers k more j x e) [
             | inl h ↦
                 let y = l.readers k q there (ap (λ (z : Reader). z.out) h.1 ∙ out) in
-                subst (λ i. ReaderTracked restores i x) (sym h.0) (subst (ReaderTracked restores k) h.1 (record { r = y.r; there = y.there; uuid_is = y.uuid_is; place_is = y.place_is; s = y.s; s_there = y.s_there; state = y.state; index_is = y.index_is; number_is = y.number_is; name_is = y.name_is }))
+                subst (λ i. ReaderTracked restores i x) (sym h.0) (subst (ReaderTracked restores k) h.1
+                (record { r = y.r; there = y.there; uuid_is = y.uuid_is; place_is = y.place_is; s = y.s; s_there = y.s_there; state = y.state; index_is = y.index_is; number_is = y.number_is; name_is = y.name_is }))
             | inr h ↦ l.readers j x h.1 out
           ];
           held = λ o r s j e m state.

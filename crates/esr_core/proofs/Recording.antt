@@ -1,5 +1,5 @@
 -- A step that doesn't swap the record leaves it: what it changes of an op is not told there.
-use Rattle.std.proofs.Common.{◌≡◌, ℕ, ◌+◌, Bool, true, false, cond, List, [], ◌∷◌, ◌++◌, Option, Some, None, map, refl, sym, ap, ◌∙◌, inl, inr, nat_cmp, subst, zero, suc}
+use Rattle.std.proofs.Common.{◌≡◌, ℕ, ◌+◌, Bool, true, false, cond, List, [], ◌∷◌, ◌++◌, Option, Some, None, map, refl, sym, ap, ◌∙◌, inl, inr, nat_cmp, subst, zero, suc, true≢false}
 use Rattle.std.specs.Prelude.{option_map, if◌then◌else◌}
 use Rattle.std.specs.Ordering.{eq_by_cmp}
 use Rattle.std.specs.Cmp.{nat_cmp_total}
@@ -147,9 +147,6 @@ keeps_failed w k None = keeps_same w
 keeps_failed w k (Some t) =
     keeps_either w (with_ticket w k (record t { out = false })) (failed_by w k t (fin.get w.ops t.op)) (is_stale w t t.work) (record { ledger = refl; deletes = λ q. refl; ops = λ q. refl }) (keeps_failed_by w k t (fin.get w.ops t.op) refl)
 
-swaps : true ≡ false → ⊥
-swaps e = cc
-
 keeps_drawn : (w : World) (k n : ℕ) (g : Ticket → Ticket) (o : Option Ticket) → Keeps w (record (with_given w k g o) { next_id = w.next_id + n })
 keeps_drawn w k n g None = record { ledger = refl; deletes = λ q. refl; ops = λ q. refl }
 keeps_drawn w k n g (Some t) = record { ledger = refl; deletes = λ q. refl; ops = λ q. refl }
@@ -173,29 +170,30 @@ keeps_delete_failed_by w k t (Some x) there = record { ledger = refl; deletes = 
 keeps_delete_failed : (w : World) (k : ℕ) (o : Option Ticket) → Keeps w (delete_failed w k o)
 keeps_delete_failed w k None = keeps_same w
 keeps_delete_failed w k (Some t) =
-    keeps_either w (with_ticket w k (record t { out = false })) (delete_failed_by w k t (fin.get w.deletes t.op)) (is_stale w t t.work) (record { ledger = refl; deletes = λ q. refl; ops = λ q. refl }) (keeps_delete_failed_by w k t (fin.get w.deletes t.op) refl)
+    keeps_either w (with_ticket w k (record t { out = false })) (delete_failed_by w k t (fin.get w.deletes t.op)) (is_stale w t t.work)
+    (record { ledger = refl; deletes = λ q. refl; ops = λ q. refl }) (keeps_delete_failed_by w k t (fin.get w.deletes t.op) refl)
 
 keeps_prune : (f : Formats) (w : World) (k : ℕ) (prune : Prune) (reply : Reply) (image : Option Image) → swaps_record (PruneStep prune) ≡ false → Keeps w (prune_step f w k prune reply image)
 keeps_prune f w k (FetchShard name) WasFetched image e = keeps_change w k (fetching name (told_blob f image name)) (fin.get w.tickets k)
 keeps_prune f w k (FetchShard name) reply image e = keeps_same w
 keeps_prune f w k (PlanShards shards) reply image e = keeps_drawn w k (kept_count shards) (planned f shards w.next_id) (fin.get w.tickets k)
-keeps_prune f w k SettlePruned reply image e = absurd (swaps e)
+keeps_prune f w k SettlePruned reply image e = absurd (true≢false e)
 keeps_prune f w k (RemoveDoomed names) reply image e = keeps_same w
 keeps_prune f w k EndDelete reply image e = keeps_change w k (λ t. record t { out = false }) (fin.get w.tickets k)
 keeps_prune f w k (DeleteFails why) reply image e = keeps_delete_failed w k (fin.get w.tickets k)
 
 keeps_step : (f : Formats) (w : World) (k : ℕ) (step : Step) (reply : Reply) (image : Option Image) → swaps_record step ≡ false → Keeps w (done_step f w k step reply image)
-keeps_step f w k (AskStep (Snapshot name indices moment)) reply image e = absurd (swaps e)
-keeps_step f w k (AskStep (Clone source name indices moment taken)) reply image e = absurd (swaps e)
-keeps_step f w k (AskStep (DeleteSnapshots names)) reply image e = absurd (swaps e)
-keeps_step f w k (AskStep Cleanup) reply image e = absurd (swaps e)
+keeps_step f w k (AskStep (Snapshot name indices moment)) reply image e = absurd (true≢false e)
+keeps_step f w k (AskStep (Clone source name indices moment taken)) reply image e = absurd (true≢false e)
+keeps_step f w k (AskStep (DeleteSnapshots names)) reply image e = absurd (true≢false e)
+keeps_step f w k (AskStep Cleanup) reply image e = absurd (true≢false e)
 keeps_step f w k (AskStep (Restore name place)) (AcceptedRestore o uuid indices) image e = record { ledger = refl; deletes = λ q. refl; ops = λ q. refl }
 keeps_step f w k (ReadStep read) reply image e = keeps_read f w k read reply image
 keeps_step f w k (PruneStep prune) reply image e = keeps_prune f w k prune reply image e
-keeps_step f w k RaiseStep reply image e = absurd (swaps e)
-keeps_step f w k SettleStep reply image e = absurd (swaps e)
-keeps_step f w k DroppedStep reply image e = absurd (swaps e)
-keeps_step f w k ElectStep reply image e = absurd (swaps e)
+keeps_step f w k RaiseStep reply image e = absurd (true≢false e)
+keeps_step f w k SettleStep reply image e = absurd (true≢false e)
+keeps_step f w k DroppedStep reply image e = absurd (true≢false e)
+keeps_step f w k ElectStep reply image e = absurd (true≢false e)
 keeps_step f w k TakeStep (Gave ticket op unit) image e = keeps_taken f w op unit (fin.get w.ops op) refl
 keeps_step f w k (ListStep from) (WasListed page) image e = keeps_change w k (λ t. listing t page) (fin.get w.tickets k)
 keeps_step f w k (DrawStep n) reply image e = keeps_drawn w k n (λ t. record t { first = w.next_id; drawn = n }) (fin.get w.tickets k)
@@ -211,15 +209,15 @@ keeps_step f w k step reply image e = keeps_same w
 keeps_fault : (f : Formats) (w : World) (k : ℕ) (step : Step) (image : Option Image) → swaps_record step ≡ false → Keeps w (faulted f w k step image)
 keeps_fault f w k LatestStep image e = keeps_change w k (λ t. record t { tried_latest = true }) (fin.get w.tickets k)
 keeps_fault f w k (BeginStep name) image e = keeps_either w _ w (is_latest name) (keeps_change w k (λ t. record t { tried_latest = true }) (fin.get w.tickets k)) (keeps_same w)
-keeps_fault f w k (AskStep (Snapshot name indices moment)) image e = absurd (swaps e)
-keeps_fault f w k (AskStep (Clone source name indices moment taken)) image e = absurd (swaps e)
-keeps_fault f w k (AskStep (DeleteSnapshots names)) image e = absurd (swaps e)
-keeps_fault f w k (AskStep Cleanup) image e = absurd (swaps e)
-keeps_fault f w k RaiseStep image e = absurd (swaps e)
-keeps_fault f w k SettleStep image e = absurd (swaps e)
-keeps_fault f w k DroppedStep image e = absurd (swaps e)
-keeps_fault f w k ElectStep image e = absurd (swaps e)
-keeps_fault f w k (PruneStep SettlePruned) image e = absurd (swaps e)
+keeps_fault f w k (AskStep (Snapshot name indices moment)) image e = absurd (true≢false e)
+keeps_fault f w k (AskStep (Clone source name indices moment taken)) image e = absurd (true≢false e)
+keeps_fault f w k (AskStep (DeleteSnapshots names)) image e = absurd (true≢false e)
+keeps_fault f w k (AskStep Cleanup) image e = absurd (true≢false e)
+keeps_fault f w k RaiseStep image e = absurd (true≢false e)
+keeps_fault f w k SettleStep image e = absurd (true≢false e)
+keeps_fault f w k DroppedStep image e = absurd (true≢false e)
+keeps_fault f w k ElectStep image e = absurd (true≢false e)
+keeps_fault f w k (PruneStep SettlePruned) image e = absurd (true≢false e)
 keeps_fault f w k (ReadStep (CommitTest name)) image e = keeps_left w name (fin.get w.blobs (f.names.text name)) (told_blob f image name)
 keeps_fault f w k step image e = keeps_same w
 

@@ -25,7 +25,8 @@ module _ (f : Formats) (size : ℕ) (w : World) where
   restore_refused name place refusal image (allowed.NamedByDelete uuid d im listed named) = NamedByDelete name place d
   restore_refused name place refusal image (allowed.FullOfRestores uuid im listed spared full) = FullOfRestores name place
 
-  clone_refused : (source name : Bytes) (names : List Bytes) (moment : ℕ) (taken : Option CloneOf) (refusal : Refusal) (image : Option Image) → CloneAllows f w source name names moment taken (Refused refusal) image → MayRefuse (AskStep (Clone source name names moment taken)) refusal
+  clone_refused : (source name : Bytes) (names : List Bytes) (moment : ℕ) (taken : Option CloneOf) (refusal : Refusal) (image : Option Image) → CloneAllows f w source name names moment taken (Refused refusal) image
+      → MayRefuse (AskStep (Clone source name names moment taken)) refusal
   clone_refused source name names moment taken refusal image (allowed.CloneUsed uuid im clear is) = CloneInUse source name names moment uuid None
   clone_refused source name names moment taken refusal image (allowed.SourceNotListed im may none) = NoSource source name names moment None
   clone_refused source name names moment taken refusal image (allowed.SourceDeleted uuid d im may listed named) = SourceInDelete source name names moment d None

@@ -112,7 +112,8 @@ left_rises f size (m ∷ log) w i q l back legal (inr (inr later)) =
 by_answer : {f : Formats} {w : World} {who : ℕ} {image : Option Image} → PruneAllows f w who SettlePruned WasSettled image → SettlesDeletion f w who
 by_answer (allowed.SettlingDelete k im s present same) = s
 
-deleted_safe : (f : Formats) (size : ℕ) (w : World) (m : Moment) (t : Ticket) (n : ℕ) → Allowed f size w m → m.entry.step ≡ PruneStep SettlePruned → m.entry.reply ≡ WasSettled → fin.get w.tickets m.entry.who ≡ Some t → t.raised ≡ Some n → (after f w m).safe ≡ suc n
+deleted_safe : (f : Formats) (size : ℕ) (w : World) (m : Moment) (t : Ticket) (n : ℕ) → Allowed f size w m → m.entry.step ≡ PruneStep SettlePruned → m.entry.reply ≡ WasSettled → fin.get w.tickets m.entry.who ≡ Some t
+    → t.raised ≡ Some n → (after f w m).safe ≡ suc n
 deleted_safe f size w m t n a step reply there raised =
     let who : ℕ = m.entry.who in
     let allows : Allows f size w who m.entry.step m.entry.reply m.image = elim a.answered [ inl h ↦ h.1 | inr dead ↦ absurd (no_answer m.entry.reply dead.refusal reply dead.refused) ] in
@@ -124,7 +125,8 @@ deleted_safe f size w m t n a step reply there raised =
     ∙ ap (λ (x : World). x.safe) (delete_settled_plain f w who s.n s.t s.s s.may)
     ∙ ap suc same
 
-pub settle_stays : (f : Formats) (size : ℕ) (w : World) (before rest : List Moment) (m : Moment) (t : Ticket) (n : ℕ) (i : Image) → Tracked w → Ranked w → IsLegal f size w (before ++ m ∷ rest) → (m.entry.step ≡ SettleStep) ⊎ (m.entry.step ≡ PruneStep SettlePruned)
+pub settle_stays : (f : Formats) (size : ℕ) (w : World) (before rest : List Moment) (m : Moment) (t : Ticket) (n : ℕ) (i : Image) → Tracked w → Ranked w → IsLegal f size w (before ++ m ∷ rest)
+    → (m.entry.step ≡ SettleStep) ⊎ (m.entry.step ≡ PruneStep SettlePruned)
     → m.entry.reply ≡ WasSettled → fin.get (world_from f w before).tickets m.entry.who ≡ Some t → t.raised ≡ Some n → Leaves f size (after f (world_from f w before) m) rest i → suc n ≤ safe_in f i
 settle_stays f size w before rest m t n i q l legal step reply there raised left =
     let here : World = world_from f w before in

@@ -80,11 +80,13 @@ carried_same f has safe term root ops tickets k t v there s c =
       ];
       finals = λ j u e out uns pres info results made is. elim (was j u e) [
         | inl h ↦ subst (λ x. FinalLaw f root ops x info results made) h.1 (s.final f root ops info results made
-            (c.finals k t there (s.out (ap (λ (x : Ticket). x.out) h.1 ∙ out)) (s.settled (ap (λ (x : Ticket). x.settled) h.1 ∙ uns)) (sym s.term ∙ ap (λ (x : Ticket). x.term) h.1 ∙ pres) info results made (sym s.work ∙ ap (λ (x : Ticket). x.work) h.1 ∙ is)))
+            (c.finals k t there (s.out (ap (λ (x : Ticket). x.out) h.1 ∙ out)) (s.settled (ap (λ (x : Ticket). x.settled) h.1 ∙ uns))
+            (sym s.term ∙ ap (λ (x : Ticket). x.term) h.1 ∙ pres) info results made (sym s.work ∙ ap (λ (x : Ticket). x.work) h.1 ∙ is)))
         | inr h ↦ c.finals j u h.1 out uns pres info results made is
       ];
       plans = λ j u e out uns pres uuids x is. elim (was j u e) [
-        | inl h ↦ c.plans k t there (s.out (ap (λ (x : Ticket). x.out) h.1 ∙ out)) (s.settled (ap (λ (x : Ticket). x.settled) h.1 ∙ uns)) (sym s.term ∙ ap (λ (x : Ticket). x.term) h.1 ∙ pres) uuids x (sym s.work ∙ ap (λ (x : Ticket). x.work) h.1 ∙ is)
+        | inl h ↦ c.plans k t there (s.out (ap (λ (x : Ticket). x.out) h.1 ∙ out)) (s.settled (ap (λ (x : Ticket). x.settled) h.1 ∙ uns))
+            (sym s.term ∙ ap (λ (x : Ticket). x.term) h.1 ∙ pres) uuids x (sym s.work ∙ ap (λ (x : Ticket). x.work) h.1 ∙ is)
         | inr h ↦ c.plans j u h.1 out uns pres uuids x is
       ];
     }

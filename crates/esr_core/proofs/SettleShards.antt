@@ -31,7 +31,19 @@ module _ (f : Formats) (has : BlobName → Bytes → Type 0) (root new : RootDat
       record { number = o; op = op; there = there; uuid_is = refl; s = s; s_there = m; r = r; state = state; index_is = i; shard_is = n; generation_is = gen }
 
   pub done_was : (uuid index shard g : ℕ) → DoneAt (fin.remove ops o) uuid index shard g → DoneAt ops uuid index shard g
-  done_was uuid index shard g d = record { number = d.number; op = d.op; there = (get_left nat_cmp_total nat_cmp-IsAntisymmetric ops o d.number d.op d.there).1; uuid_is = d.uuid_is; s = d.s; s_there = d.s_there; r = d.r; state = d.state; index_is = d.index_is; shard_is = d.shard_is; generation_is = d.generation_is }
+  done_was uuid index shard g d = record {
+    number = d.number;
+    op = d.op;
+    there = (get_left nat_cmp_total nat_cmp-IsAntisymmetric ops o d.number d.op d.there).1;
+    uuid_is = d.uuid_is;
+    s = d.s;
+    s_there = d.s_there;
+    r = d.r;
+    state = d.state;
+    index_is = d.index_is;
+    shard_is = d.shard_is;
+    generation_is = d.generation_is;
+  }
 
   -- what is live was live
   pub live_was : (index shard g : ℕ) → IsLive new (fin.remove ops o) index shard g → IsLive root ops index shard g
@@ -51,7 +63,10 @@ module _ (f : Formats) (has : BlobName → Bytes → Type 0) (root new : RootDat
         own = own_on ops (fin.remove ops o) on_with f has index shard g c.own;
         done = λ uuid h d below. c.done uuid h (done_was uuid index shard h d) below;
         listed = λ above snap m shard_of. elim (Has-append root.snapshots _ snap (subst (λ xs. Has xs snap) fins.snapshots m)) [
-          | inl old ↦ c.listed (λ h is. let now = larger_old _ (done_at results index shard) h is in let b : now.0 ≤ g = above now.0 (fins.generations index shard ∙ now.1) in elim now.2 [ inl e ↦ omega (arith, e, b) | inr e ↦ omega (arith, e.0, b) ]) snap old shard_of
+          | inl old ↦ c.listed (λ h is. let now = larger_old _ (done_at results index shard) h is in let b : now.0 ≤ g = above now.0 (fins.generations index shard ∙ now.1) in elim now.2 [
+            | inl e ↦ omega (arith, e, b)
+            | inr e ↦ omega (arith, e.0, b)
+          ]) snap old shard_of
           | inr e ↦ subst (λ (x : RootSnap). ListsAs f has index shard g x.uuid) e (new_listed above (subst (λ (x : RootSnap). IsOfShard f has x.uuid index shard) (sym e) shard_of))
         ];
       }
@@ -59,7 +74,8 @@ module _ (f : Formats) (has : BlobName → Bytes → Type 0) (root new : RootDat
       new_listed : ((h : ℕ) → Generation new index shard h → h ≤ g) → IsOfShard f has op.uuid index shard → ListsAs f has index shard g op.uuid
       new_listed above is =
           let same : is.info ≡ info_of op results = reads_one has func (Snap op.uuid) f.info is.info (info_of op results) is.info_reads noted in
-          let member : Has (map (λ (s : ShardWork). (s.ref, s.number)) op.shards) is.place = subst (λ xs. Has xs is.place) (sym law.places) (in_shelf_places op.indices is.place (subst (λ xs. Has xs is.place) (ap (λ (x : SnapInfo). shelf_places x.indices) same) is.there)) in
+          let member : Has (map (λ (s : ShardWork). (s.ref, s.number)) op.shards) is.place =
+          subst (λ xs. Has xs is.place) (sym law.places) (in_shelf_places op.indices is.place (subst (λ xs. Has xs is.place) (ap (λ (x : SnapInfo). shelf_places x.indices) same) is.there)) in
           let (s, m, e) = Has-mapped (λ (s : ShardWork). (s.ref, s.number)) op.shards is.place member in
           let (r, state, r_there) = done_of op.shards results done s m in
           let i : s.ref.id ≡ index = ap (λ (p : IndexRef × ℕ). p.0.id) e ∙ is.index_is in

@@ -34,7 +34,8 @@ settles_shards f w shelf k n t s l c may present info results made work =
     let swapping : SwapLaw f (HeldIn f w) shelf t.noted s = (l.tickets k t may.out.there).swaps s unsettled (inl present) in
     let root_is : finalized_root w.root (info_of law.op results) results ≡ s.root =
     (λ i. finalized_root (sym law.root_is i) (sym law.info_is i) results) ∙ ap (λ (x : Swap). x.root) same in
-    let fins : Finalizes w.root (info_of law.op results) results s.root = subst (Finalizes w.root (info_of law.op results) results) root_is (finalizes f (HeldIn f w) w.root law.op results op_law_of (root_one_each f (HeldIn f w) w.safe w.root c.root_is) law.done) in
+    let fins : Finalizes w.root (info_of law.op results) results s.root =
+    subst (Finalizes w.root (info_of law.op results) results) root_is (finalizes f (HeldIn f w) w.root law.op results op_law_of (root_one_each f (HeldIn f w) w.safe w.root c.root_is) law.done) in
     let own_is : metadata f (info_of law.op results) ≡ s.own = ap (metadata f) (sym law.info_is) ∙ ap (λ (x : Swap). x.own) same in
     let own : Has s.own (Snap law.op.uuid, f.info.text (info_of law.op results)) = subst (λ xs. Has xs (Snap law.op.uuid, f.info.text (info_of law.op results))) own_is (inl refl) in
     let noted : Reads (HeldIn f w) (Snap law.op.uuid) f.info (info_of law.op results) =
@@ -60,7 +61,13 @@ settles_shards f w shelf k n t s l c may present info results made work =
       finals = λ j u e out uns pres info' results' made' is. absurd (elim (get_was nat_cmp_total nat_cmp-IsAntisymmetric w.tickets k _ j u e) [
         | inl h ↦ true≢false (ap (λ (x : Ticket). x.settled) h.1 ∙ uns)
         | inr h ↦ h.0 (l.single j k
-            (record { t = u; there = h.1; s = record { root = finalized_root u.root info' results'; own = metadata f info'; commands = made' ∷ [] }; is = record { is = ap (λ x. swap_of f x u.root) is; out = out; unsettled = uns }; present = pres })
+            (record {
+              t = u;
+              there = h.1;
+              s = record { root = finalized_root u.root info' results'; own = metadata f info'; commands = made' ∷ [] };
+              is = record { is = ap (λ x. swap_of f x u.root) is; out = out; unsettled = uns };
+              present = pres;
+            })
             (record { t = t; there = may.out.there; s = s; is = unsettled; present = present }))
       ]);
     }

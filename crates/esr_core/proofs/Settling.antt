@@ -54,7 +54,8 @@ module _ (f : Formats) (w : World) (shelf : List Shelved) (l : Lawful f w shelf)
   ]
 
   -- the op leaves, and the root is the new one
-  queue_settled : ((o : ℕ) (op : Op) (u : ℕ) → fin.get w.ops o ≡ Some op → op.source ≡ Some u → Lists s.root u) → ((j : ℕ) (u : Ticket) → fin.get w.tickets j ≡ Some u → u.out ≡ true → u.term ≡ w.term → u.work ≡ Drop → u.op ≢ t.op)
+  queue_settled : ((o : ℕ) (op : Op) (u : ℕ) → fin.get w.ops o ≡ Some op → op.source ≡ Some u → Lists s.root u)
+      → ((j : ℕ) (u : Ticket) → fin.get w.tickets j ≡ Some u → u.out ≡ true → u.term ≡ w.term → u.work ≡ Drop → u.op ≢ t.op)
       → Queue w.term s.root (fin.remove w.ops t.op) (fin.remove w.deletes t.op) w.completed w.next_op (fin.insert w.tickets k (record t { settled = true }))
   queue_settled listed no_drop =
       queue_root w.term w.root (fin.remove w.ops t.op) (fin.remove w.deletes t.op) w.completed w.next_op (fin.insert w.tickets k (record t { settled = true }))
@@ -144,7 +145,19 @@ module _ (f : Formats) (w : World) (shelf : List Shelved) (l : Lawful f w shelf)
 
   pub done_left : (uuid index shard g : ℕ) → DoneAt (fin.remove w.ops t.op) uuid index shard g → ⊥
   done_left uuid index shard g a = no_done uuid index shard g
-      (record { number = a.number; op = a.op; there = (left_in w.ops t.op a.number a.op a.there).1; uuid_is = a.uuid_is; s = a.s; s_there = a.s_there; r = a.r; state = a.state; index_is = a.index_is; shard_is = a.shard_is; generation_is = a.generation_is })
+      (record {
+        number = a.number;
+        op = a.op;
+        there = (left_in w.ops t.op a.number a.op a.there).1;
+        uuid_is = a.uuid_is;
+        s = a.s;
+        s_there = a.s_there;
+        r = a.r;
+        state = a.state;
+        index_is = a.index_is;
+        shard_is = a.shard_is;
+        generation_is = a.generation_is;
+      })
 
   pub no_shard : (j : ℕ) (u : Ticket) → fin.get (fin.insert w.tickets k (record t { settled = true })) j ≡ Some u → u.out ≡ true → (index shard : ℕ) → u.work ≡ Shard index shard → ⊥
   no_shard j u e out index shard is = elim (was_in w.tickets k (record t { settled = true }) j u e) [

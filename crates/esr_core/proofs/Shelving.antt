@@ -10,6 +10,7 @@ use Rattle.esr_model.specs.Shelf.{Shelved, ShelfShard, shelf_after}
 use Rattle.esr_model.specs.Parts.{part_names}
 use Rattle.esr_model.specs.Places.{shelf_places}
 use Rattle.esr_model.specs.Image.{AllPairs, concat, FileStands, ShardStands, SnapStands, RootStands}
+use Rattle.esr_model.specs.Lists.{pairs_one}
 use Rattle.esr_core.specs.World.{World, Restoring, HeldIn}
 use Rattle.esr_core.specs.Restores.{restore_of, handed, ended}
 use Rattle.esr_core.specs.Ids.{Law}
@@ -19,7 +20,6 @@ use Rattle.esr_core.specs.Turns.{ReadTurn, OpensRestore, HandsShard, ReadsMore, 
 use Rattle.esr_core.specs.ReadLaw.{ReadLaw, ReadsShelved}
 use Rattle.esr_core.specs.History.{world_from, IsLegal, AreTold, commands_at, committed}
 use Rattle.esr_core.specs.Laws.OneValue.{held_one, safe_root_stands}
-use Rattle.esr_core.proofs.Determined.{pairs_one}
 use Rattle.esr_core.specs.Laws.RestoreMaps.{put_was}
 use Rattle.esr_core.proofs.Turning.{turn_law}
 use Rattle.esr_core.proofs.ReadFrames.{OneContent, Frame, frame}

@@ -63,7 +63,8 @@ module _ (P : ℕ → ShardWork → Type 0) where
   left ops o h p q s r e none m state = h p q s r (left_in ops o p q e).1 none m state
 
   -- of a done shard of an op whose shards go on
-  goes : (ops : Ops) (o : ℕ) (op : Op) (g : ShardWork → ShardWork) → GoesOn g → fin.get ops o ≡ Some op → HoldsOfDone ops → (s : ShardWork) (r : ShardResult) → op.source ≡ None → Has (map g op.shards) s → s.state ≡ Done r → P op.uuid s
+  goes : (ops : Ops) (o : ℕ) (op : Op) (g : ShardWork → ShardWork) → GoesOn g → fin.get ops o ≡ Some op → HoldsOfDone ops → (s : ShardWork) (r : ShardResult) → op.source ≡ None → Has (map g op.shards) s → s.state ≡ Done r
+      → P op.uuid s
   goes ops o op g on there h s r none m state =
       let (z, z_there, same) = Has-mapped g op.shards s m in
       let is : z ≡ s = sym (on.done z r (ap (λ (x : ShardWork). x.state) same ∙ state)) ∙ same in
@@ -212,7 +213,8 @@ module _ (P : ℕ → ShardWork → Type 0) where
   left_ops w name None None = refl
   left_ops w name (Some b) now = refl
 
-  asked_fault : (f : Formats) (w : World) (k : ℕ) (command : Asked) (image : Option Image) (b : Bool) → DoesNone (AskStep command) → HoldsOfDone w.ops → HoldsOfDone (if b then fallen f w (done_step f w k (AskStep command) HasEnded image) image else w).ops
+  asked_fault : (f : Formats) (w : World) (k : ℕ) (command : Asked) (image : Option Image) (b : Bool) → DoesNone (AskStep command) → HoldsOfDone w.ops
+      → HoldsOfDone (if b then fallen f w (done_step f w k (AskStep command) HasEnded image) image else w).ops
   asked_fault f w k command image true other h = fallen_done f w (done_step f w k (AskStep command) HasEnded image) image h (step_done f w k (AskStep command) HasEnded image other h)
   asked_fault f w k command image false other h = h
 
@@ -290,7 +292,8 @@ module _ (f : Formats) (old new : World) (one : (name : BlobName) (a b : Bytes) 
       record {
         snap = snap;
         reads = record { bytes = reads.bytes; there = reads.there.0; reads = reads.reads };
-        stand = files_again index shard snap.files files others (subst (λ (x : ShardSnapshot). AllPairs (λ (e : FileEntry) (file : Bytes × Bytes). (e.physical ≡ file.0) × FileStands f (At f old.blobs) index shard e file.1) x.files files) same h.stand) stand;
+        stand = files_again index shard snap.files files others
+            (subst (λ (x : ShardSnapshot). AllPairs (λ (e : FileEntry) (file : Bytes × Bytes). (e.physical ≡ file.0) × FileStands f (At f old.blobs) index shard e file.1) x.files files) same h.stand) stand;
       }
 
 -- ---- shards with the files that the sources tell
@@ -310,7 +313,8 @@ moved f w new shelf l one h o op s r there none m state =
     stands_again f w new one s.ref.id s.number op.uuid (files_told f s.place s.ref.name s.number) (h o op s r there none m state) d.snap d.snap_reads its.0 its.1
 
 -- a shard is done
-module _ (f : Formats) (size : ℕ) (w : World) (shelf : List Shelved) (l : Law f w shelf) (sourced : Sourced f w) (known : TellsShards f w) (honest : HasUpload w → IsHonest f w.blobs) (k : ℕ) (r : ShardResult) (i : Image) (d : Dones f size w k r (Some i)) where
+module _ (f : Formats) (size : ℕ) (w : World) (shelf : List Shelved) (l : Law f w shelf) (sourced : Sourced f w) (known : TellsShards f w)
+    (honest : HasUpload w → IsHonest f w.blobs) (k : ℕ) (r : ShardResult) (i : Image) (d : Dones f size w k r (Some i)) where
   -- the shard that the ticket holds
   place_is : (z : ShardWork) → Has d.op.shards z → z.state ≡ Out k → (z.ref.id ≡ r.index) × (z.number ≡ r.shard)
   place_is z m e =
@@ -364,7 +368,8 @@ doing : {f : Formats} {size : ℕ} {w : World} {who : ℕ} {r : ShardResult} {re
 doing (allowed.Doing k r im d same) = (d, refl)
 
 -- each step keeps them
-module _ (f : Formats) (size : ℕ) (w : World) (shelf : List Shelved) (l : Law f w shelf) (sourced : Sourced f w) (known : TellsShards f w) (honest : HasUpload w → IsHonest f w.blobs) (m : Moment) (i : Image) (told : m.image ≡ Some i) (a : Allowed f size w m) where
+module _ (f : Formats) (size : ℕ) (w : World) (shelf : List Shelved) (l : Law f w shelf) (sourced : Sourced f w) (known : TellsShards f w)
+    (honest : HasUpload w → IsHonest f w.blobs) (m : Moment) (i : Image) (told : m.image ≡ Some i) (a : Allowed f size w m) where
   holds : HoldsOfDone (OfSource f w) (after f w m).ops
   holds = elim a.answered [
     | inl alive ↦ elim (which m.entry.step) [
@@ -417,7 +422,8 @@ final_told f size w m a sourced k o info results op reply there =
 
 -- ---- over a history
 
-pub of_sources : (f : Formats) (size : ℕ) (log : List Moment) (w : World) (shelf : List Shelved) → Law f w shelf → Sourced f w → TellsHandedOut f w log → HonestUploads f w log → IsLegal f size w log → AreTold log → AreOfSources f w log
+pub of_sources : (f : Formats) (size : ℕ) (log : List Moment) (w : World) (shelf : List Shelved) → Law f w shelf → Sourced f w → TellsHandedOut f w log → HonestUploads f w log → IsLegal f size w log → AreTold log
+    → AreOfSources f w log
 of_sources f size [] w shelf l sourced known honest legal told = tt
 of_sources f size (m ∷ log) w shelf l sourced known honest legal told =
     let s = step_law f size w shelf l m told.0.0 told.0.1 legal.0 in

@@ -18,7 +18,7 @@ use Rattle.esr_core.specs.Stored.{stored_files}
 use Rattle.esr_core.specs.World.{Op, ShardWork, Done, AllDone, info_of, comes_first_of, shelved_shard, shelved_of, index_names, metadata}
 use Rattle.esr_core.specs.Generations.{DoneAt, IsLive, Carries, AreFilesOf, DoneStands, AreIndicesBy, OpTexts, OpLaw}
 use Rattle.esr_core.specs.Swaps.{OrOwn}
-use Rattle.esr_model.specs.Lists.{AllPairs-map, AllPairs-with, Has-map, Has-mapped}
+use Rattle.esr_model.specs.Lists.{AllPairs-map, AllPairs-with, Has-map, Has-mapped, AllPairs-snoc}
 use Rattle.esr_core.specs.Laws.BlobFrames.{reads_kept, file_kept, snap_in, index_kept}
 use Rattle.esr_core.specs.Laws.DoneShards.{done_of}
 use Rattle.esr_core.specs.Laws.NewRoots.{larger_is, larger_old, larger_new}
@@ -26,9 +26,9 @@ use Rattle.esr_core.proofs.Owning.{stands_on}
 use Rattle.esr_core.specs.Laws.SortedLists.{Has-sorted}
 use Rattle.esr_core.proofs.Ordered.{map-sorted, in_shelf_places}
 use Rattle.esr_core.specs.Laws.OneValue.{reads_one}
-use Rattle.esr_core.proofs.Reading.{AllPairs-snoc}
 use Rattle.esr_core.proofs.Stored.{stored_is}
 use Rattle.esr_core.proofs.Chosen.{apart-once, chosen_places, filter_pairs}
+use Rattle.esr_core.proofs.AskedClones.{place_of}
 
 module _ (f : Formats) (has : BlobName → Bytes → Type 0) (func : IsOne has) (own : List (BlobName × Bytes)) where
   abbrev Then : BlobName → Bytes → Type 0
@@ -116,9 +116,6 @@ module _ (f : Formats) (has : BlobName → Bytes → Type 0) (func : IsOne has) 
 AllPairs-maps : {A B C : Type 0} (R : B → C → Type 0) (g : A → B) (h : A → C) (xs : List A) → ((x : A) → Has xs x → R (g x) (h x)) → AllPairs R (map g xs) (map h xs)
 AllPairs-maps R g h [] all = tt
 AllPairs-maps R g h (x ∷ xs) all = (all x (inl refl), AllPairs-maps R g h xs (λ y m. all y (inr m)))
-
-abbrev place_of : ShardWork → IndexRef × ℕ
-place_of s = (s.ref, s.number)
 
 -- its info can be written
 pub info_back : (f : Formats) (op : Op) (results : List ShardResult) → OpTexts f op → ReadsBack f.info (info_of op results)

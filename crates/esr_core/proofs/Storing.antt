@@ -141,7 +141,8 @@ after_up f base [] next = omega arith
 after_up f base (file ∷ files) next = let a = next_up (reused_file f base file) next in let b = after_up f base files (next_by (reused_file f base file) next) in omega (arith, a, b)
 
 -- an entry is the base's, or has one of the ids
-pub entry_from : (f : Formats) (size : ℕ) (base : ShardFiles) (files : List (Bytes × Bytes)) (next : ℕ) (e : FileEntry) → Has (entries_from f size base next files) e → Has base.files e ⊎ ((next ≤ e.name) × (e.name < id_after f base next files))
+pub entry_from : (f : Formats) (size : ℕ) (base : ShardFiles) (files : List (Bytes × Bytes)) (next : ℕ) (e : FileEntry) → Has (entries_from f size base next files) e
+    → Has base.files e ⊎ ((next ≤ e.name) × (e.name < id_after f base next files))
 entry_from f size base [] next e m = absurd m
 entry_from f size base (file ∷ files) next e m = go (reused_file f base file) refl m (entry_from f size base files)
   where
@@ -207,13 +208,15 @@ entries_there f size base (file ∷ files) next have keeps below e m =
     go (reused_file f base file) refl m (entries_there f size base files)
   where
     go : (o : Option FileEntry) → reused_file f base file ≡ o → Has (entry_by f size next file (reused_file f base file) ∷ entries_from f size base (next_by (reused_file f base file) next) files) e
-        → ((n : ℕ) (hs : List FileEntry) → ((x : FileEntry) → Has base.files x → Has hs x) → ((x : FileEntry) → Has hs x → x.name < n) → (x : FileEntry) → Has (entries_from f size base n files) x → Has (with_entries hs (entries_from f size base n files)) x)
+        → ((n : ℕ) (hs : List FileEntry) → ((x : FileEntry) → Has base.files x → Has hs x) → ((x : FileEntry) → Has hs x → x.name < n)
+        → (x : FileEntry) → Has (entries_from f size base n files) x → Has (with_entries hs (entries_from f size base n files)) x)
         → Has (with_entries have (entry_by f size next file (reused_file f base file) ∷ entries_from f size base (next_by (reused_file f base file) next) files)) e
     go None is m rest =
         subst (λ o. Has (with_entries have (entry_by f size next file o ∷ entries_from f size base (next_by o next) files)) e) (sym is)
         (added (subst (λ o. Has (entry_by f size next file o ∷ entries_from f size base (next_by o next) files) e) is m))
       where
-        added : Has (entry_by f size next file None ∷ entries_from f size base (suc next) files) e → Has (with_entries (if has_entry have next then have else put_by id_first (entry_by f size next file None) have) (entries_from f size base (suc next) files)) e
+        added : Has (entry_by f size next file None ∷ entries_from f size base (suc next) files) e
+            → Has (with_entries (if has_entry have next then have else put_by id_first (entry_by f size next file None) have) (entries_from f size base (suc next) files)) e
         added (inl same) = entries_keep (entries_from f size base (suc next) files) (if has_entry have next then have else put_by id_first (entry_by f size next file None) have) e
             (subst (λ l. Has l e) (sym (cond-false _ _ _ (has_false have next below))) (put_by-Has id_first (entry_by f size next file None) e have (inl same)))
         added (inr later) = rest (suc next) (if has_entry have next then have else put_by id_first (entry_by f size next file None) have) (λ x h. more_has have (entry_by f size next file None) x (keeps x h))
@@ -226,7 +229,8 @@ entries_there f size base (file ∷ files) next have keeps below e m =
         (kept (subst (λ o. Has (entry_by f size next file o ∷ entries_from f size base (next_by o next) files) e) is m))
       where
         kept : Has (b ∷ entries_from f size base next files) e → Has (with_entries (if has_entry have b.name then have else put_by id_first b have) (entries_from f size base next files)) e
-        kept (inl same) = entries_keep (entries_from f size base next files) (if has_entry have b.name then have else put_by id_first b have) e (more_has have b e (subst (Has have) same (keeps b (reused_is base.files file.0 (length file.1) (f.digest file.1) b is).0)))
+        kept (inl same) = entries_keep (entries_from f size base next files) (if has_entry have b.name then have else put_by id_first b have) e
+            (more_has have b e (subst (Has have) same (keeps b (reused_is base.files file.0 (length file.1) (f.digest file.1) b is).0)))
         kept (inr later) = rest next (if has_entry have b.name then have else put_by id_first b have) (λ x h. more_has have b x (keeps x h))
             (λ x h. elim (more_from have b x h) [ inl same ↦ subst (λ (y : FileEntry). y.name < next) same (below b (keeps b (reused_is base.files file.0 (length file.1) (f.digest file.1) b is).0)) | inr was ↦ below x was ]) e later
 
@@ -269,8 +273,11 @@ pub files_stand : (f : Formats) (has : BlobName → Bytes → Type 0) (i k size 
     → (next : ℕ) → ((name : BlobName) (b : Bytes) → Has (new_blobs f size base i k next files) (name, b) → has name b)
     → AllPairs (λ (e : FileEntry) (file : Bytes × Bytes). (e.physical ≡ file.0) × FileStands f has i k e file.1) (entries_from f size base next files) files
 files_stand f has i k size some base [] old next there = tt
-files_stand f has i k size some base (file ∷ files) old next there =
-    (one (reused_file f base file) refl, files_stand f has i k size some base files (λ e x m. old e x (inr m)) (next_by (reused_file f base file) next) (λ name b m. there name b (Has-right (blobs_by i k (entry_by f size next file (reused_file f base file)) file.1 (reused_file f base file)) _ (name, b) m)))
+files_stand f has i k size some base (file ∷ files) old next there = (
+  one (reused_file f base file) refl,
+  files_stand f has i k size some base files (λ e x m. old e x (inr m)) (next_by (reused_file f base file) next)
+      (λ name b m. there name b (Has-right (blobs_by i k (entry_by f size next file (reused_file f base file)) file.1 (reused_file f base file)) _ (name, b) m)),
+)
   where
     one : (o : Option FileEntry) → reused_file f base file ≡ o → ((entry_by f size next file (reused_file f base file)).physical ≡ file.0) × FileStands f has i k (entry_by f size next file (reused_file f base file)) file.1
     one None is =
@@ -294,7 +301,8 @@ pub files_found : (f : Formats) (has : BlobName → Bytes → Type 0) (i k size 
 files_found f has i k size some base old [] next there = ([], tt)
 files_found f has i k size some base old (file ∷ files) next there =
     let first : EntryStands f has i k size next file (reused_file f base file) = one (reused_file f base file) refl in
-    let rest = files_found f has i k size some base old files (next_by (reused_file f base file) next) (λ name b m. there name b (Has-right (blobs_by i k (entry_by f size next file (reused_file f base file)) file.1 (reused_file f base file)) _ (name, b) m)) in
+    let rest = files_found f has i k size some base old files (next_by (reused_file f base file) next)
+    (λ name b m. there name b (Has-right (blobs_by i k (entry_by f size next file (reused_file f base file)) file.1 (reused_file f base file)) _ (name, b) m)) in
     (first.0 ∷ rest.0, (first.1, rest.1))
   where
     one : (o : Option FileEntry) → reused_file f base file ≡ o → EntryStands f has i k size next file (reused_file f base file)
@@ -378,7 +386,8 @@ module _ (f : Formats) (size : ℕ) (w : World) (shelf : List Shelved) (l : Law 
   snap_there : Reads (At f w.blobs) (ShardSnap r.index r.shard t.uuid) f.shard_snap (record { uuid = t.uuid; files = entries })
   snap_there = record { bytes = f.shard_snap.text (record { uuid = t.uuid; files = entries }); there = there _ _ (Has-right (new_blobs f size b.base r.index r.shard t.first files) _ _ (inl refl)); reads = b.snap_back }
 
-  pub done_found : (new : World) → new ≡ record w { ops = fin.insert w.ops t.op (record op { shards = map (marked k (Done r)) op.shards }); tickets = fin.insert w.tickets k (record t { out = false }); completed = completing w.completed t.op (map (marked k (Done r)) op.shards) }
+  pub done_found : (new : World) → new
+      ≡ record w { ops = fin.insert w.ops t.op (record op { shards = map (marked k (Done r)) op.shards }); tickets = fin.insert w.tickets k (record t { out = false }); completed = completing w.completed t.op (map (marked k (Done r)) op.shards) }
       → DoneFound f w k r new
   done_found new e =
       record {
@@ -400,7 +409,11 @@ module _ (f : Formats) (size : ℕ) (w : World) (shelf : List Shelved) (l : Law 
         extends = extends t.base refl;
         reused = λ x m. elim (entry_from f size b.base files t.first x m) [
           | inl base ↦ inr (in_base t.base refl x base)
-          | inr new_one ↦ let g : r.generation ≡ id_after f b.base t.first files = b.generation in let d : t.first + t.drawn ≡ suc r.generation = b.drew in let up : x.name < id_after f b.base t.first files = new_one.1 in inl (record { from = new_one.0; below = omega (arith, g, d, up) })
+          | inr new_one ↦
+              let g : r.generation ≡ id_after f b.base t.first files = b.generation in
+              let d : t.first + t.drawn ≡ suc r.generation = b.drew in
+              let up : x.name < id_after f b.base t.first files = new_one.1 in
+              inl (record { from = new_one.0; below = omega (arith, g, d, up) })
         ];
         s = s;
         s_there = s_there;

@@ -43,7 +43,10 @@ pub metadata_shape : (f : Formats) (info : SnapInfo) → ((r q : IndexRef) → H
 metadata_shape f info one root made back =
     record {
       root_back = back;
-      no_root = λ n b h. elim h [ inl e ↦ not_snap (ap (λ (p : BlobName × Bytes). p.0) e) | inr h' ↦ elim h' [ inl e ↦ not_meta (ap (λ (p : BlobName × Bytes). p.0) e) | inr m ↦ let (r, there, e) = Has-mapped index_text info.indices (Root n, b) m in not_index (ap (λ (p : BlobName × Bytes). p.0) e) ] ];
+      no_root = λ n b h. elim h [
+        | inl e ↦ not_snap (ap (λ (p : BlobName × Bytes). p.0) e)
+        | inr h' ↦ elim h' [ inl e ↦ not_meta (ap (λ (p : BlobName × Bytes). p.0) e) | inr m ↦ let (r, there, e) = Has-mapped index_text info.indices (Root n, b) m in not_index (ap (λ (p : BlobName × Bytes). p.0) e) ]
+      ];
       no_test = λ v name b h t. elim h [
         | inl e ↦ subst (IsTestOf v) (sym (ap (λ (p : BlobName × Bytes). p.0) e)) t
         | inr h' ↦ elim h' [

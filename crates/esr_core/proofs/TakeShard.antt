@@ -95,7 +95,8 @@ module _ (f : Formats) (w : World) (o : ℕ) (op : Op) (s : ShardWork) (base : O
         shards = λ j u e out index shard is. elim (ticket_was j u e) [
           | inl h ↦
               let p = shard_same (ap (λ (x : Ticket). x.work) h.1 ∙ is) in
-              subst (λ x. ShardLaw f (HeldIn f w) w.root ops j u index x) p.1 (subst (λ x. ShardLaw f (HeldIn f w) w.root ops j u x s.number) p.0 (subst (λ x. ShardLaw f (HeldIn f w) w.root ops j x s.ref.id s.number) h.1 (subst (λ x. ShardLaw f (HeldIn f w) w.root ops x v s.ref.id s.number) (sym h.0) new_law)))
+              subst (λ x. ShardLaw f (HeldIn f w) w.root ops j u index x) p.1 (subst (λ x. ShardLaw f (HeldIn f w) w.root ops j u x s.number) p.0
+              (subst (λ x. ShardLaw f (HeldIn f w) w.root ops j x s.ref.id s.number) h.1 (subst (λ x. ShardLaw f (HeldIn f w) w.root ops x v s.ref.id s.number) (sym h.0) new_law)))
           | inr h ↦ old_law j u index shard (c.shards j u h.1 out index shard is)
         ];
         one_shard = λ i j t u a b ao bo index shard ai bi. elim (ticket_was i t a) [

@@ -87,7 +87,8 @@ module _ (f : Formats) (w : World) (shelf : List Shelved) (l : Lawful f w shelf)
   ]
 
   -- no cleanup is open beside an open snapshot
-  no_cleanup : (o : ℕ) (op : Op) → fin.get w.ops o ≡ Some op → (j : ℕ) (u : Ticket) → fin.get w.tickets j ≡ Some u → u.out ≡ true → IsMaster u.work → u.term ≡ w.term → (x : Deletion) → fin.get w.deletes u.op ≡ Some x → x.clean ≡ true → ⊥
+  no_cleanup : (o : ℕ) (op : Op) → fin.get w.ops o ≡ Some op → (j : ℕ) (u : Ticket) → fin.get w.tickets j ≡ Some u → u.out ≡ true → IsMaster u.work → u.term ≡ w.term → (x : Deletion) → fin.get w.deletes u.op ≡ Some x
+      → x.clean ≡ true → ⊥
   no_cleanup o op there j u e out m pres x h clean = (l.queue.lone u.op x h clean).0 o op there
 
   abbrev drop_ticket : ℕ → Ticket
@@ -123,7 +124,16 @@ module _ (f : Formats) (w : World) (shelf : List Shelved) (l : Lawful f w shelf)
       fresh = fresh_new w.tickets w.next_ticket (deleting_ticket d x) l.sound.fresh;
     };
     queue = queue_new w.term w.tickets w.next_ticket (deleting_ticket d x) w.root w.ops w.deletes w.completed w.next_op
-        (λ uuids plan e. record { deletion = x; there = h.ready.there; unfailed = h.ready.unfailed; first = h.ready.first; root_is = refl; planned = λ s is. absurd (none-some s (unplanned e ∙ is)); named = λ c us p z. sym (uuids_same z); keeps = λ s is. absurd (none-some s (unplanned e ∙ is)) })
+        (λ uuids plan e. record {
+          deletion = x;
+          there = h.ready.there;
+          unfailed = h.ready.unfailed;
+          first = h.ready.first;
+          root_is = refl;
+          planned = λ s is. absurd (none-some s (unplanned e ∙ is));
+          named = λ c us p z. sym (uuids_same z);
+          keeps = λ s is. absurd (none-some s (unplanned e ∙ is));
+        })
         (λ e. absurd (differ e)) (λ m. h.ready.no_swap)
         (λ j u e out pres is same. elim (l.queue.drops j u e out pres is).stopped [
           | inl y ↦ l.queue.apart d y.0 x (ap (fin.get w.ops) (sym same) ∙ y.1) h.ready.there
@@ -153,7 +163,16 @@ module _ (f : Formats) (w : World) (shelf : List Shelved) (l : Lawful f w shelf)
       fresh = fresh_new w.tickets w.next_ticket (cleaning_ticket w d) l.sound.fresh;
     };
     queue = queue_new w.term w.tickets w.next_ticket (cleaning_ticket w d) w.root w.ops w.deletes w.completed w.next_op
-        (λ uuids plan e. record { deletion = x; there = h.ready.there; unfailed = h.ready.unfailed; first = λ p q lt e. h.ready.no_op p q e; root_is = refl; planned = λ s is. absurd (none-some s (unplanned e ∙ is)); named = λ c. absurd (true≢false c); keeps = λ s is. absurd (none-some s (unplanned e ∙ is)) })
+        (λ uuids plan e. record {
+          deletion = x;
+          there = h.ready.there;
+          unfailed = h.ready.unfailed;
+          first = λ p q lt e. h.ready.no_op p q e;
+          root_is = refl;
+          planned = λ s is. absurd (none-some s (unplanned e ∙ is));
+          named = λ c. absurd (true≢false c);
+          keeps = λ s is. absurd (none-some s (unplanned e ∙ is));
+        })
         (λ e. absurd (differ e)) (λ m j a. h.ready.no_ticket j a.t a.there a.out)
         (λ j u e out pres is same. elim (l.queue.drops j u e out pres is).stopped [
           | inl y ↦ l.queue.apart d y.0 x (ap (fin.get w.ops) (sym same) ∙ y.1) h.ready.there
@@ -170,7 +189,8 @@ module _ (f : Formats) (w : World) (shelf : List Shelved) (l : Lawful f w shelf)
       unplanned : {uuids : List ℕ} {plan : Option Swap} → Deleting [] None ≡ Deleting uuids plan → None ≡ plan
       unplanned e = cc
 
-  pub final_lawful : (o : ℕ) (op : Op) (results : List ShardResult) (new : World) → TakeReadyFinal f w o op results new → ((name : BlobName) (b : Bytes) → Has (metadata f (info_of op results)) (name, b) → Has w.doomed name → ⊥) → Lawful f new shelf
+  pub final_lawful : (o : ℕ) (op : Op) (results : List ShardResult) (new : World) → TakeReadyFinal f w o op results new → ((name : BlobName) (b : Bytes) → Has (metadata f (info_of op results)) (name, b) → Has w.doomed name → ⊥)
+      → Lawful f new shelf
   final_lawful o op results new d clean = record {
     sound = take_law f w shelf l.sound o op results new it;
     queue = subst QueueIn (sym d.new_is) (queue_new w.term w.tickets w.next_ticket (final_ticket f w o op results) w.root w.ops w.deletes w.completed w.next_op
@@ -236,14 +256,16 @@ module _ (f : Formats) (w : World) (shelf : List Shelved) (l : Lawful f w shelf)
     | inr hb ↦ elim (was_op p a ea) [
       | inr ha ↦ q.queued p r a b x z lt ha.1 hb.1 ma mb i n pend j out
       | inl ha ↦ let (y, m, how) = was_shard a x ha.1 ma in elim how [
-        | inl same ↦ q.queued o r op b y z (subst (λ c. c < r) ha.0 lt) d.ready.op_there hb.1 m mb (sym (ap (λ (c : ShardWork). c.ref.id) same) ∙ i) (sym (ap (λ (c : ShardWork). c.number) same) ∙ n) (sym (ap (λ (c : ShardWork). c.state) same) ∙ pend) j out
+        | inl same ↦ q.queued o r op b y z (subst (λ c. c < r) ha.0 lt) d.ready.op_there hb.1 m mb (sym (ap (λ (c : ShardWork). c.ref.id) same) ∙ i)
+            (sym (ap (λ (c : ShardWork). c.number) same) ∙ n) (sym (ap (λ (c : ShardWork). c.state) same) ∙ pend) j out
         | inr taken ↦ out_pending (ap (λ (c : ShardWork). c.state) taken.2 ∙ pend)
       ]
     ]
     | inl hb ↦ elim (was_op p a ea) [
       | inl ha ↦ absurd (omega (arith, lt, ha.0, hb.0))
       | inr ha ↦ let (y, m, how) = was_shard b z hb.1 mb in elim how [
-        | inl same ↦ q.queued p o a op x y (subst (λ c. p < c) hb.0 lt) ha.1 d.ready.op_there ma m (i ∙ ap (λ (c : ShardWork). c.ref.id) same) (n ∙ ap (λ (c : ShardWork). c.number) same) pend j (sym (ap (λ (c : ShardWork). c.state) same) ∙ out)
+        | inl same ↦
+            q.queued p o a op x y (subst (λ c. p < c) hb.0 lt) ha.1 d.ready.op_there ma m (i ∙ ap (λ (c : ShardWork). c.ref.id) same) (n ∙ ap (λ (c : ShardWork). c.number) same) pend j (sym (ap (λ (c : ShardWork). c.state) same) ∙ out)
         | inr taken ↦ d.ready.first p a x (subst (λ c. p < c) hb.0 lt) ha.1 ma (i ∙ sym (ap (λ (c : ShardWork). c.ref.id) taken.2) ∙ taken.0) (n ∙ sym (ap (λ (c : ShardWork). c.number) taken.2) ∙ taken.1) (subst Waits (sym pend) tt)
       ]
     ]

@@ -118,7 +118,8 @@ module _ (f : Formats) (w : World) (shelf : List Shelved) (l : Law f w shelf) (n
             ordered = kept.ordered;
             picked = picked_kept f (HeldIn f w) now keeps w.safe shelf kept.picked;
             begun = λ n p. elim (at_was f w.blobs name bytes a.named a.absent [] (Root n) p.0 p.1) [ inl e ↦ absurd (no_root n (sym e.0)) | inr e ↦ kept.begun n (p.0, e) ];
-            whole = λ n p above. elim (at_was f w.blobs name bytes a.named a.absent [] (Root n) p.0 p.1) [ inl e ↦ absurd (no_root n (sym e.0)) | inr e ↦ let h = kept.whole n (p.0, e) above in (h.0, stands_kept f (HeldIn f w) now keeps n h.0 h.1) ];
+            whole =
+                λ n p above. elim (at_was f w.blobs name bytes a.named a.absent [] (Root n) p.0 p.1) [ inl e ↦ absurd (no_root n (sym e.0)) | inr e ↦ let h = kept.whole n (p.0, e) above in (h.0, stands_kept f (HeldIn f w) now keeps n h.0 h.1) ];
             named = λ text b there. elim (get_was nat_list_cmp_total texts_same w.blobs (f.names.text name) bytes text b there) [ inl e ↦ (name, sym e.0, a.named.0) | inr e ↦ kept.named text b e.1 ];
           };
           doomed_begun = λ n d. elim d [ inl e ↦ absurd (no_root n e) | inr was ↦ sound.rooted.doomed_begun n was ];
@@ -178,5 +179,6 @@ tests_ids f w shelf l new (DrawsTest m d) = drawn_ids f w shelf l m d
 tests_ids f w shelf l new (AddsTest m name bytes a) = added_ids f w shelf l name bytes m a
 tests_ids f w shelf l new (RemovesTests m names r) = subst (IdsIn f) (sym r.new_is) (ids_blobs f w.next_id w.blobs w.doomed w.root w.ops w.tickets l.ids r.now (λ name p. inl (p.0, (r.removes.left (f.names.text name) p.0 p.1.0, p.1.1))))
 
-pub tests_meta : (f : Formats) (w : World) (shelf : List Shelved) → Law f w shelf → (name : BlobName) (bytes : Bytes) (new : World) → AddTest f w name bytes new → (m : BlobName) (b : Bytes) → At f (fin.insert w.blobs (f.names.text name) bytes) m b → At f w.blobs m b ⊎ ((u : ℕ) → IsMetaOf u m → ⊥)
+pub tests_meta : (f : Formats) (w : World) (shelf : List Shelved) → Law f w shelf → (name : BlobName) (bytes : Bytes) (new : World) → AddTest f w name bytes new → (m : BlobName) (b : Bytes)
+    → At f (fin.insert w.blobs (f.names.text name) bytes) m b → At f w.blobs m b ⊎ ((u : ℕ) → IsMetaOf u m → ⊥)
 tests_meta f w shelf l name bytes new a m b at = added_meta f w shelf l name bytes new a m b at

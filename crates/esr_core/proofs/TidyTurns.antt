@@ -54,7 +54,8 @@ pub root_less : (f : Formats) (has now : BlobName → Bytes → Type 0) → ((na
 root_less f has now less root t = record { used = t.used; lists = λ i k g gen. listed_less f has now less root i k g (t.lists i k g gen) }
 
 -- where blobs are taken away
-lessened : (f : Formats) (has now : BlobName → Bytes → Type 0) → ((name : BlobName) (bytes : Bytes) → now name bytes → has name bytes) → (root : RootData) (ops : FinMap nat_cmp Op) (tickets : FinMap nat_cmp Ticket) → Tidy f has root ops tickets → Tidy f now root ops tickets
+lessened : (f : Formats) (has now : BlobName → Bytes → Type 0) → ((name : BlobName) (bytes : Bytes) → now name bytes → has name bytes) → (root : RootData) (ops : FinMap nat_cmp Op) (tickets : FinMap nat_cmp Ticket)
+    → Tidy f has root ops tickets → Tidy f now root ops tickets
 lessened f has now less root ops tickets t = record {
   rooted = root_less f has now less root t.rooted;
   done = λ u i k g a. listed_less f has now less root i k g (t.done u i k g a);
@@ -62,8 +63,8 @@ lessened f has now less root ops tickets t = record {
 }
 
 -- where they are added
-grown : (f : Formats) (has now : BlobName → Bytes → Type 0) → IsOne now → ((name : BlobName) (bytes : Bytes) → has name bytes → now name bytes) → (safe term : ℕ) (root : RootData) (ops : FinMap nat_cmp Op) (tickets : FinMap nat_cmp Ticket)
-    → Carried f has safe term root ops tickets → Tidy f has root ops tickets → Tidy f now root ops tickets
+grown : (f : Formats) (has now : BlobName → Bytes → Type 0) → IsOne now → ((name : BlobName) (bytes : Bytes) → has name bytes → now name bytes)
+    → (safe term : ℕ) (root : RootData) (ops : FinMap nat_cmp Op) (tickets : FinMap nat_cmp Ticket) → Carried f has safe term root ops tickets → Tidy f has root ops tickets → Tidy f now root ops tickets
 grown f has now func keeps safe term root ops tickets c t = record {
   rooted = record { used = t.rooted.used; lists = λ i k g gen. on i k g (c.carries i k g (inl gen)).stands (t.rooted.lists i k g gen) };
   done = λ u i k g a. on i k g (c.carries i k g (inr (u, a))).stands (t.done u i k g a);
@@ -124,7 +125,8 @@ put_other tickets k v other = λ j u e is_out shard. elim (was_in tickets k v j 
   | inr h ↦ record { k = j; t = u; there = h.1; out = is_out; work = refl; base = refl }
 ]
 
-done_put : (ops : FinMap nat_cmp Op) (o : ℕ) (op v : Op) → fin.get ops o ≡ Some op → op.uuid ≡ v.uuid → ((z : ShardWork) (r : ShardResult) → Has v.shards z → z.state ≡ Done r → Has op.shards z) → DonesWere ops (fin.insert ops o v)
+done_put : (ops : FinMap nat_cmp Op) (o : ℕ) (op v : Op) → fin.get ops o ≡ Some op → op.uuid ≡ v.uuid → ((z : ShardWork) (r : ShardResult) → Has v.shards z → z.state ≡ Done r → Has op.shards z)
+    → DonesWere ops (fin.insert ops o v)
 done_put ops o op v there uuid back = λ u i k g a. elim (was_in ops o v a.number a.op a.there) [
   | inl h ↦ record {
     number = o;
@@ -143,7 +145,8 @@ done_put ops o op v there uuid back = λ u i k g a. elim (was_in ops o v a.numbe
 ]
 
 -- what is done after a change of shards was so before it
-back_mapped : (g : ShardWork → ShardWork) → ((x : ShardWork) (r : ShardResult) → (g x).state ≡ Done r → g x ≡ x) → (shards : List ShardWork) (z : ShardWork) (r : ShardResult) → Has (map g shards) z → z.state ≡ Done r → Has shards z
+back_mapped : (g : ShardWork → ShardWork) → ((x : ShardWork) (r : ShardResult) → (g x).state ≡ Done r → g x ≡ x) → (shards : List ShardWork) (z : ShardWork) (r : ShardResult) → Has (map g shards) z → z.state ≡ Done r
+    → Has shards z
 back_mapped g same shards z r m state =
     let (x, there, e) = Has-mapped g shards z m in
     subst (Has shards) (sym (same x r (ap (λ (y : ShardWork). y.state) e ∙ state)) ∙ e) there
@@ -231,7 +234,8 @@ module _ (f : Formats) (w : World) (shelf : List Shelved) (l : Law f w shelf) (t
   taken : (o : ℕ) (op : Op) (s : ShardWork) (base : Option ℕ) (new : World) → TakeReadyShard w o op s base new → TidyIn f new
   taken o op s base new d = subst (TidyIn f) (sym d.new_is) (record {
     rooted = tidy.rooted;
-    done = λ u i k g a. tidy.done u i k g (done_put w.ops o op (record op { shards = map (given w.next_ticket s.ref.id s.number) op.shards }) d.ready.op_there refl (back_mapped (given w.next_ticket s.ref.id s.number) (given_done w.next_ticket s.ref.id s.number) op.shards) u i k g a);
+    done = λ u i k g a. tidy.done u i k g
+        (done_put w.ops o op (record op { shards = map (given w.next_ticket s.ref.id s.number) op.shards }) d.ready.op_there refl (back_mapped (given w.next_ticket s.ref.id s.number) (given_done w.next_ticket s.ref.id s.number) op.shards) u i k g a);
     bases = λ j u e out i k b is at. elim (was_in w.tickets w.next_ticket (shard_ticket w o op s base) j u e) [
       | inl h ↦
           let place = places_same s.ref.id s.number i k (ap (λ (x : Ticket). x.work) h.1 ∙ is) in

@@ -220,8 +220,8 @@ module _ (f : Formats) (size : ℕ) (Told : Shelved → Type 0) where
     | inr new ↦ given_told w m made sourced ops (new_final f w (free_by f w shelf l) t info results made is m (ap (fin.get (after f w m).tickets) (sym new.0) ∙ there))
   ]
 
-  settled_told : (w : World) (who : ℕ) (step : Step) (reply : Reply) (image : Option Image) → Allows f size w who step reply image → counts reply ≡ true → (step ≡ SettleStep) ⊎ (step ≡ PruneStep SettlePruned) → FinalsTold w.tickets → (snap : Shelved)
-      → HasCommand f w who (Create snap) → Told snap
+  settled_told : (w : World) (who : ℕ) (step : Step) (reply : Reply) (image : Option Image) → Allows f size w who step reply image → counts reply ≡ true → (step ≡ SettleStep) ⊎ (step ≡ PruneStep SettlePruned) → FinalsTold w.tickets
+      → (snap : Shelved) → HasCommand f w who (Create snap) → Told snap
   settled_told w who step reply image a counted (inl e) finals snap h =
       let st : Settles f w who = settles_final (subst (λ (x : Step). Allows f size w who x reply image) e a) counted in
       let same : h.t ≡ st.t = same_Some h.t st.t (sym h.there ∙ st.may.out.there) in
@@ -243,14 +243,15 @@ module _ (f : Formats) (size : ℕ) (Told : Shelved → Type 0) where
     | inr dead ↦ absurd (subst (λ (cs : List Command). Has cs (Create snap)) (blocked_none f w safe m dead) h)
   ]
 
-  pub all_told : (log : List Moment) (w : World) (shelf : List Shelved) → Law f w shelf → AreOfSources f w log → ((front back : List Moment) → log ≡ front ++ back → OpsTold (world_from f w front)) → FinalsTold w.tickets → IsLegal f size w log → AreTold log
-      → (safe : ℕ) (snap : Shelved) → Has (committed f safe w log) (Create snap) → Told snap
+  pub all_told : (log : List Moment) (w : World) (shelf : List Shelved) → Law f w shelf → AreOfSources f w log → ((front back : List Moment) → log ≡ front ++ back → OpsTold (world_from f w front)) → FinalsTold w.tickets
+      → IsLegal f size w log → AreTold log → (safe : ℕ) (snap : Shelved) → Has (committed f safe w log) (Create snap) → Told snap
   all_told [] w shelf l sourced ops finals legal told safe snap h = absurd h
   all_told (m ∷ log) w shelf l sourced ops finals legal told safe snap h =
       let s = step_law f size w shelf l m told.0.0 told.0.1 legal.0 in
       elim (Has-either (commands_at f safe w m.entry.who m.entry.step m.entry.reply) (committed f safe (after f w m) log) (Create snap) h) [
         | inl here ↦ counted_told w m legal.0 finals safe snap here
-        | inr later ↦ all_told log (after f w m) (shelf_after shelf s.commands) s.law sourced.1 (λ front back is. ops (m ∷ front) back (ap (λ (l : List Moment). m ∷ l) is)) (finals_after w shelf l m sourced.0 (ops [] (m ∷ log) refl) finals) legal.1 told.1 safe snap later
+        | inr later ↦ all_told log (after f w m) (shelf_after shelf s.commands) s.law sourced.1 (λ front back is. ops (m ∷ front) back (ap (λ (l : List Moment). m ∷ l) is))
+            (finals_after w shelf l m sourced.0 (ops [] (m ∷ log) refl) finals) legal.1 told.1 safe snap later
       ]
 
 -- ---- from the opened world on

@@ -181,7 +181,8 @@ module _ (w : World) (l : Tracked w) (v : Ticket) (term : v.term ≤ w.term) (dr
         alone = λ i y us p e out pres is same. elim (was_in w.tickets w.next_ticket v i y e) [ inl h ↦ h.0 | inr h ↦ absurd (m.alone clean i y h.1 out) ];
       }
 
-  clean_on : (j : ℕ) (u : Ticket) → fin.get w.tickets j ≡ Some u → u.out ≡ true → u.term ≡ w.term → u.clean ≡ true → CleanTracked w.term w.deletes w.tickets j u → CleanTracked w.term w.deletes (fin.insert w.tickets w.next_ticket v) j u
+  clean_on : (j : ℕ) (u : Ticket) → fin.get w.tickets j ≡ Some u → u.out ≡ true → u.term ≡ w.term → u.clean ≡ true → CleanTracked w.term w.deletes w.tickets j u
+      → CleanTracked w.term w.deletes (fin.insert w.tickets w.next_ticket v) j u
   clean_on j u e out pres clean c =
       record {
         x = c.x;
@@ -231,7 +232,8 @@ module _ (w : World) (l : Tracked w) (v : Ticket) (term : v.term ≤ w.term) (dr
             | inr h ↦ l.deletions.modes j u uuids plan h.1 is x at
           ];
           cleaning = λ j u e out pres clean. elim (was_in w.tickets w.next_ticket v j u e) [
-            | inl h ↦ subst (CleanTracked w.term w.deletes (fin.insert w.tickets w.next_ticket v) j) h.1 (subst (λ (i : ℕ). CleanTracked w.term w.deletes (fin.insert w.tickets w.next_ticket v) i v) (sym h.0) (clean_new (ap (λ (y : Ticket). y.clean) h.1 ∙ clean)))
+            | inl h ↦ subst (CleanTracked w.term w.deletes (fin.insert w.tickets w.next_ticket v) j) h.1
+                (subst (λ (i : ℕ). CleanTracked w.term w.deletes (fin.insert w.tickets w.next_ticket v) i v) (sym h.0) (clean_new (ap (λ (y : Ticket). y.clean) h.1 ∙ clean)))
             | inr h ↦ clean_on j u h.1 out pres clean (l.deletions.cleaning j u h.1 out pres clean)
           ];
         };

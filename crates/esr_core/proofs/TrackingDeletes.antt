@@ -97,7 +97,8 @@ module _ (w : World) (l : Tracked w) (now : Ops) (by : ℕ) (a : Aborts w.ops no
       }
 
 -- a new delete or cleanup, which aborts some ops or none
-tracked_opens : (w : World) → Tracked w → (now : Ops) → Aborts w.ops now w.next_op → ((k : ℕ) (t : Ticket) → fin.get w.tickets k ≡ Some t → t.out ≡ true → t.settled ≡ false → t.term ≡ w.term → IsMaster t.work → fin.get now t.op ≡ fin.get w.ops t.op)
+tracked_opens : (w : World) → Tracked w → (now : Ops) → Aborts w.ops now w.next_op
+    → ((k : ℕ) (t : Ticket) → fin.get w.tickets k ≡ Some t → t.out ≡ true → t.settled ≡ false → t.term ≡ w.term → IsMaster t.work → fin.get now t.op ≡ fin.get w.ops t.op)
     → (new : Deletion) → Tracked (record w { ops = now; deletes = fin.insert w.deletes w.next_op new; next_op = suc w.next_op })
 tracked_opens w l now a whole new =
     tracked_aborts w l now w.next_op a whole

@@ -23,7 +23,8 @@ pub record GoesOnPast (k : ℕ) (g : ShardWork → ShardWork) : Type 0 where
 
 module _ (w : World) (l : Tracked w) (k : ℕ) (t : Ticket) (out : IsOut w k t) (op : Op) (there : fin.get w.ops t.op ≡ Some op) (g : ShardWork → ShardWork) (failed : Bool) (up : op.failed ≡ true → failed ≡ true) (on : GoesOnPast k g)
     (done : (s : ShardWork) (r : ShardResult) → Has op.shards s → (g s).state ≡ Done r → (s.state ≡ Done r) ⊎ ((r.index ≡ s.ref.id) × (r.shard ≡ s.number) × (r.generation < w.next_id)))
-    (aside : (j : ℕ) (u : Ticket) (info : SnapInfo) (results : List ShardResult) (made : Command) → j ≢ k → fin.get w.tickets j ≡ Some u → u.out ≡ true → u.settled ≡ false → u.term ≡ w.term → u.work ≡ Finalize info results made → u.op ≢ t.op) where
+    (aside : (j : ℕ) (u : Ticket) (info : SnapInfo) (results : List ShardResult) (made : Command) → j ≢ k → fin.get w.tickets j ≡ Some u
+    → u.out ≡ true → u.settled ≡ false → u.term ≡ w.term → u.work ≡ Finalize info results made → u.op ≢ t.op) where
   abbrev now : Op
   now = record op { shards = map g op.shards; failed = failed }
 
@@ -58,7 +59,19 @@ module _ (w : World) (l : Tracked w) (k : ℕ) (t : Ticket) (out : IsOut w k t) 
           place_is = x.place_is;
           name_is = x.name_is;
         }
-    | inr other ↦ record { op = x.op; op_there = other_in w.ops t.op now u.op other ∙ x.op_there; uuid_is = x.uuid_is; source_is = x.source_is; s = x.s; s_there = x.s_there; state = x.state; index_is = x.index_is; number_is = x.number_is; place_is = x.place_is; name_is = x.name_is }
+    | inr other ↦ record {
+      op = x.op;
+      op_there = other_in w.ops t.op now u.op other ∙ x.op_there;
+      uuid_is = x.uuid_is;
+      source_is = x.source_is;
+      s = x.s;
+      s_there = x.s_there;
+      state = x.state;
+      index_is = x.index_is;
+      number_is = x.number_is;
+      place_is = x.place_is;
+      name_is = x.name_is;
+    }
   ]
 
   held_on : (p : ℕ) (z : ShardWork) (j : ℕ) → j ≢ k → IsHeldBy w.tickets p z j → IsHeldBy tickets p z j

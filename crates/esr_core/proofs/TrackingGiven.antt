@@ -93,7 +93,19 @@ module _ (w : World) (l : Tracked w) (o : ℕ) (op : Op) (s : ShardWork) (base :
           place_is = x.place_is;
           name_is = x.name_is;
         }
-    | inr away ↦ record { op = x.op; op_there = other_in w.ops o now u.op away ∙ x.op_there; uuid_is = x.uuid_is; source_is = x.source_is; s = x.s; s_there = x.s_there; state = x.state; index_is = x.index_is; number_is = x.number_is; place_is = x.place_is; name_is = x.name_is }
+    | inr away ↦ record {
+      op = x.op;
+      op_there = other_in w.ops o now u.op away ∙ x.op_there;
+      uuid_is = x.uuid_is;
+      source_is = x.source_is;
+      s = x.s;
+      s_there = x.s_there;
+      state = x.state;
+      index_is = x.index_is;
+      number_is = x.number_is;
+      place_is = x.place_is;
+      name_is = x.name_is;
+    }
   ]
 
   held_on : (p : ℕ) (z : ShardWork) (j : ℕ) → IsHeldBy w.tickets p z j → IsHeldBy tickets p z j
@@ -151,7 +163,8 @@ module _ (w : World) (l : Tracked w) (o : ℕ) (op : Op) (s : ShardWork) (base :
   alike : Alike w.next_id op now
   alike = record { name = refl; uuid = refl; indices = refl; g = g; shards = refl; ref = given_ref; number = given_number; done = λ z r m e. inl (given_done z r e) }
 
-  pub tracked_given : Tracked (record w { ops = fin.insert w.ops o (record op { shards = map (given w.next_ticket s.ref.id s.number) op.shards }); tickets = fin.insert w.tickets w.next_ticket (shard_ticket w o op s base); next_ticket = suc w.next_ticket })
+  pub tracked_given : Tracked
+      (record w { ops = fin.insert w.ops o (record op { shards = map (given w.next_ticket s.ref.id s.number) op.shards }); tickets = fin.insert w.tickets w.next_ticket (shard_ticket w o op s base); next_ticket = suc w.next_ticket })
   tracked_given =
       record {
         numbers = λ p q e. elim (was_in w.ops o now p q e) [ inl h ↦ subst (λ x. x < w.next_op) (sym h.0) (l.numbers o op ready.op_there) | inr h ↦ l.numbers p q h.1 ];
@@ -206,6 +219,7 @@ module _ (w : World) (l : Tracked w) (o : ℕ) (op : Op) (s : ShardWork) (base :
           ];
         };
         one_swap = λ i j a b. l.one_swap i j (swap_was i a) (swap_was j b);
-        named = named_from w.root w.ops ops w.next_id l.named (λ p q e. elim (was_in w.ops o now p q e) [ inl h ↦ (op, ap (fin.get w.ops) h.0 ∙ ready.op_there, subst (Alike w.next_id op) h.1 alike) | inr h ↦ (q, h.1, alike_same w.next_id q) ]);
+        named =
+            named_from w.root w.ops ops w.next_id l.named (λ p q e. elim (was_in w.ops o now p q e) [ inl h ↦ (op, ap (fin.get w.ops) h.0 ∙ ready.op_there, subst (Alike w.next_id op) h.1 alike) | inr h ↦ (q, h.1, alike_same w.next_id q) ]);
         in_term = record { from = l.in_term.from; below = l.in_term.below };
       }

@@ -46,7 +46,19 @@ module _ (w : World) (l : Tracked w) (op : Op) (next : ℕ) (c : IsNewOp w op ne
         begun = λ k t e. let b : t.op < w.next_op = l.begun k t e in omega (arith, b);
         first_ticket = l.first_ticket;
         shards = λ k t i n e out is. let h = l.shards k t i n e out is in
-            record { op = h.op; op_there = stays t.op h.op h.op_there; uuid_is = h.uuid_is; source_is = h.source_is; s = h.s; s_there = h.s_there; state = h.state; index_is = h.index_is; number_is = h.number_is; place_is = h.place_is; name_is = h.name_is };
+            record {
+              op = h.op;
+              op_there = stays t.op h.op h.op_there;
+              uuid_is = h.uuid_is;
+              source_is = h.source_is;
+              s = h.s;
+              s_there = h.s_there;
+              state = h.state;
+              index_is = h.index_is;
+              number_is = h.number_is;
+              place_is = h.place_is;
+              name_is = h.name_is;
+            };
         held = λ o x s j e m state. elim (was_in w.ops w.next_op op o x e) [
           | inl h ↦ absurd (pending_out (sym (c.pending s (subst (λ (y : Op). Has y.shards s) (sym h.1) m)) ∙ state))
           | inr h ↦ l.held o x s j h.1 m state
@@ -69,7 +81,8 @@ module _ (w : World) (l : Tracked w) (op : Op) (next : ℕ) (c : IsNewOp w op ne
 
 module _ (w : World) (l : Tracked w) (o : ℕ) (root : RootData) (named : Named root (fin.remove w.ops o) w.next_id)
     (no_shard : (k : ℕ) (t : Ticket) → fin.get w.tickets k ≡ Some t → t.out ≡ true → IsShard t.work → t.op ≢ o)
-    (aside : (k : ℕ) (t : Ticket) (info : SnapInfo) (results : List ShardResult) (made : Command) → fin.get w.tickets k ≡ Some t → t.out ≡ true → t.settled ≡ false → t.term ≡ w.term → t.work ≡ Finalize info results made → (t.op ≢ o) × (root ≡ w.root))
+    (aside : (k : ℕ) (t : Ticket) (info : SnapInfo) (results : List ShardResult) (made : Command) → fin.get w.tickets k ≡ Some t
+    → t.out ≡ true → t.settled ≡ false → t.term ≡ w.term → t.work ≡ Finalize info results made → (t.op ≢ o) × (root ≡ w.root))
     (others : (k : ℕ) (t : Ticket) (uuids : List ℕ) (plan : Option Swap) → fin.get w.tickets k ≡ Some t → t.out ≡ true → t.settled ≡ false → t.term ≡ w.term → t.work ≡ Deleting uuids plan → (t.op ≢ o) × (root ≡ w.root))
     (deletes : Deletes) (less : (d : ℕ) (x : Deletion) → fin.get deletes d ≡ Some x → fin.get w.deletes d ≡ Some x) (more : (d : ℕ) → d ≢ o → fin.get deletes d ≡ fin.get w.deletes d)
     (cleaning : (k : ℕ) (t : Ticket) → fin.get w.tickets k ≡ Some t → t.out ≡ true → t.term ≡ w.term → t.clean ≡ true → fin.get deletes t.op ≡ fin.get w.deletes t.op) where

@@ -54,7 +54,8 @@ falls w up l u true blobs = tracked_aside up u blobs up.safe up.pending up.compl
 falls w up l u false blobs = tracked_aside w l blobs w.safe w.pending w.completed w.doomed true
 
 -- a ticket that goes on with its own work
-quiet : (t : Ticket) (noted : List BlobName) (wrote read : List (BlobName × Bytes)) (raised : Option ℕ) (tried : Bool) (first drawn : ℕ) → Follows t (record t { noted = noted; wrote = wrote; read = read; raised = raised; tried_latest = tried; first = first; drawn = drawn })
+quiet : (t : Ticket) (noted : List BlobName) (wrote read : List (BlobName × Bytes)) (raised : Option ℕ) (tried : Bool) (first drawn : ℕ)
+    → Follows t (record t { noted = noted; wrote = wrote; read = read; raised = raised; tried_latest = tried; first = first; drawn = drawn })
 quiet t noted wrote read raised tried first drawn = record { work = refl; op = refl; uuid = refl; place = refl; name = refl; source = refl; term = refl; root = refl; clean = refl; out = λ e. e; settled = λ e. e; shard = λ s e. e }
 
 -- one that ends, of no shard
@@ -87,12 +88,14 @@ module _ (f : Formats) (size : ℕ) (w : World) (l : Tracked w) where
   asks : (name : Bytes) (indices : List AskedIndex) (time o : ℕ) → Accepts f w name indices time o → Tracked (asked w (Snapshot name indices time))
   asks name indices time o a =
       let v : World = record w { ops = fin.insert w.ops w.next_op (asked_op w name indices time); next_op = suc w.next_op; next_id = (asked w (Snapshot name indices time)).next_id } in
-      tracked_aside v (tracked_came w l (asked_op w name indices time) (asked w (Snapshot name indices time)).next_id (new_asked w l.named name indices time a.distinct a.unused) a.fits) w.blobs w.safe w.pending (completing w.completed w.next_op (asked_op w name indices time).shards) w.doomed w.deposed
+      tracked_aside v (tracked_came w l (asked_op w name indices time) (asked w (Snapshot name indices time)).next_id (new_asked w l.named name indices time a.distinct a.unused) a.fits) w.blobs w.safe w.pending
+      (completing w.completed w.next_op (asked_op w name indices time).shards) w.doomed w.deposed
 
   asks_copy : (source name : Bytes) (names : List Bytes) (time o : ℕ) (taken : CloneOf) (image : Option Image) → AcceptsClone f w source name names time o taken image → Tracked (clone_opened w name time taken)
   asks_copy source name names time o taken image a =
       let v : World = record w { ops = fin.insert w.ops w.next_op (cloned_op w name time taken); next_op = suc w.next_op; next_id = suc w.next_id } in
-      tracked_aside v (tracked_came w l (cloned_op w name time taken) (suc w.next_id) (new_cloned w l.named f source name names time o taken image a) a.fits) w.blobs w.safe w.pending (completing w.completed w.next_op (cloned_op w name time taken).shards) w.doomed w.deposed
+      tracked_aside v (tracked_came w l (cloned_op w name time taken) (suc w.next_id) (new_cloned w l.named f source name names time o taken image a) a.fits) w.blobs w.safe w.pending
+      (completing w.completed w.next_op (cloned_op w name time taken).shards) w.doomed w.deposed
 
   -- ---- take
 
@@ -220,7 +223,8 @@ module _ (f : Formats) (size : ℕ) (w : World) (l : Tracked w) where
   raises : (k : ℕ) (t : Ticket) → fin.get w.tickets k ≡ Some t → Tracked (record (change w k (λ (x : Ticket). record x { raised = Some w.pending })) { pending = suc w.pending })
   raises k t there =
       let v : World = change w k (λ (x : Ticket). record x { raised = Some w.pending }) in
-      tracked_aside v (changed k t there (λ (x : Ticket). record x { raised = Some w.pending }) (quiet t t.noted t.wrote t.read (Some w.pending) t.tried_latest t.first t.drawn) (drew k t there)) v.blobs v.safe (suc w.pending) v.completed v.doomed v.deposed
+      tracked_aside v (changed k t there (λ (x : Ticket). record x { raised = Some w.pending }) (quiet t t.noted t.wrote t.read (Some w.pending) t.tried_latest t.first t.drawn) (drew k t there)) v.blobs v.safe
+      (suc w.pending) v.completed v.doomed v.deposed
 
   draws : (k n : ℕ) (t : Ticket) → fin.get w.tickets k ≡ Some t → w.next_id + n < first_id (suc w.term) → Tracked (record (change w k (λ (x : Ticket). record x { first = w.next_id; drawn = n })) { next_id = w.next_id + n })
   draws k n t there fits =
@@ -263,7 +267,8 @@ module _ (f : Formats) (size : ℕ) (w : World) (l : Tracked w) where
             inr (subst (λ (y : ShardResult). (y.index ≡ s.ref.id) × (y.shard ≡ s.number) × (y.generation < w.next_id)) one (sym same.0, sym same.1, below))
       ]
 
-      aside : (j : ℕ) (u : Ticket) (info : SnapInfo) (results : List ShardResult) (made : Command) → j ≢ k → fin.get w.tickets j ≡ Some u → u.out ≡ true → u.settled ≡ false → u.term ≡ w.term → u.work ≡ Finalize info results made → u.op ≢ d.t.op
+      aside : (j : ℕ) (u : Ticket) (info : SnapInfo) (results : List ShardResult) (made : Command) → j ≢ k → fin.get w.tickets j ≡ Some u → u.out ≡ true → u.settled ≡ false → u.term ≡ w.term
+          → u.work ≡ Finalize info results made → u.op ≢ d.t.op
       aside j u info results made away e out uns pres is =
           final_apart w l d.op d.s d.s_there (λ q state. done_out q k (sym state ∙ d.state)) d.t.op d.op_there u info results (l.finals j u info results made e out uns pres is)
 
@@ -281,15 +286,16 @@ module _ (f : Formats) (size : ℕ) (w : World) (l : Tracked w) where
 
   -- the op of a unit fails, where no other finalization of it is out
   fails_op : (k : ℕ) (c : Fails w k) → fin.get w.ops c.t.op ≡ Some c.op
-      → ((j : ℕ) (u : Ticket) (info : SnapInfo) (results : List ShardResult) (made : Command) → j ≢ k → fin.get w.tickets j ≡ Some u → u.out ≡ true → u.settled ≡ false → u.term ≡ w.term → u.work ≡ Finalize info results made → u.op ≢ c.t.op)
-      → Tracked (failed_by w k c.t (fin.get w.ops c.t.op))
+      → ((j : ℕ) (u : Ticket) (info : SnapInfo) (results : List ShardResult) (made : Command) → j ≢ k → fin.get w.tickets j ≡ Some u
+      → u.out ≡ true → u.settled ≡ false → u.term ≡ w.term → u.work ≡ Finalize info results made → u.op ≢ c.t.op) → Tracked (failed_by w k c.t (fin.get w.ops c.t.op))
   fails_op k c there aside =
       subst (λ x. Tracked (failed_by w k c.t x)) (sym there) (tracked_went w l k c.t c.out c.op there (fails k) true (λ e. refl) (gives_up k) (λ s r m e. inl (failed_done s r e)) aside)
     where
       failed_done : (s : ShardWork) (r : ShardResult) → (fails k s).state ≡ Done r → s.state ≡ Done r
       failed_done s r e = elim (failed_is k s) [ inr h ↦ sym (ap (λ (y : ShardWork). y.state) h.2) ∙ e | inl h ↦ absurd (up_done (sym (ap (λ (y : ShardWork). y.state) h.1) ∙ e)) ]
 
-  fails_by : (k : ℕ) (c : Fails w k) → (b : Bool) → is_stale w c.t c.t.work ≡ b → Tracked (if b then with_ticket w k (record c.t { out = false }) else failed_by w k c.t (fin.get w.ops c.t.op)) → Tracked (failed_of w k (fin.get w.tickets k))
+  fails_by : (k : ℕ) (c : Fails w k) → (b : Bool) → is_stale w c.t c.t.work ≡ b → Tracked (if b then with_ticket w k (record c.t { out = false }) else failed_by w k c.t (fin.get w.ops c.t.op))
+      → Tracked (failed_of w k (fin.get w.tickets k))
   fails_by k c b is h =
       subst (λ x. Tracked (failed_of w k x)) (sym c.out.there) (subst (λ x. Tracked (if x then with_ticket w k (record c.t { out = false }) else failed_by w k c.t (fin.get w.ops c.t.op))) (sym is) h)
 
@@ -303,15 +309,18 @@ module _ (f : Formats) (size : ℕ) (w : World) (l : Tracked w) where
     ]
   ]
     where
-      of_shard : IsShard c.t.work → (j : ℕ) (u : Ticket) (info : SnapInfo) (results : List ShardResult) (made : Command) → j ≢ k → fin.get w.tickets j ≡ Some u → u.out ≡ true → u.settled ≡ false → u.term ≡ w.term → u.work ≡ Finalize info results made → u.op ≢ c.t.op
+      of_shard : IsShard c.t.work → (j : ℕ) (u : Ticket) (info : SnapInfo) (results : List ShardResult) (made : Command) → j ≢ k → fin.get w.tickets j ≡ Some u → u.out ≡ true → u.settled ≡ false → u.term ≡ w.term
+          → u.work ≡ Finalize info results made → u.op ≢ c.t.op
       of_shard shard j u info results made away e out uns pres is =
           let (i, n, work) = shard_of c.t.work shard in
           let x = l.shards k c.t i n c.out.there c.out.out work in
           final_apart w l x.op x.s x.s_there (λ q state. done_out q k (sym state ∙ x.state)) c.t.op x.op_there u info results (l.finals j u info results made e out uns pres is)
 
-      of_master : IsMaster c.t.work → c.t.term ≡ w.term → (j : ℕ) (u : Ticket) (info : SnapInfo) (results : List ShardResult) (made : Command) → j ≢ k → fin.get w.tickets j ≡ Some u → u.out ≡ true → u.settled ≡ false → u.term ≡ w.term → u.work ≡ Finalize info results made → u.op ≢ c.t.op
+      of_master : IsMaster c.t.work → c.t.term ≡ w.term → (j : ℕ) (u : Ticket) (info : SnapInfo) (results : List ShardResult) (made : Command) → j ≢ k → fin.get w.tickets j ≡ Some u → u.out ≡ true → u.settled ≡ false
+          → u.term ≡ w.term → u.work ≡ Finalize info results made → u.op ≢ c.t.op
       of_master master present j u info results made away e out uns pres is =
-          absurd (away (l.one_swap j k (record { t = u; there = e; out = out; unsettled = uns; present = pres; swaps = subst IsMaster (sym is) tt }) (record { t = c.t; there = c.out.there; out = c.out.out; unsettled = c.unsettled; present = present; swaps = master })))
+          absurd (away (l.one_swap j k (record { t = u; there = e; out = out; unsettled = uns; present = pres; swaps = subst IsMaster (sym is) tt })
+          (record { t = c.t; there = c.out.there; out = c.out.out; unsettled = c.unsettled; present = present; swaps = master })))
 
   -- ---- settled and dropped
 
@@ -320,13 +329,15 @@ module _ (f : Formats) (size : ℕ) (w : World) (l : Tracked w) where
       let v : World = record w { tickets = fin.insert w.tickets k (record s.t { settled = true }) } in
       let x : World = record v { root = s.s.root; ops = fin.remove w.ops s.t.op; deletes = fin.remove w.deletes s.t.op } in
       subst Tracked (sym (settled_plain f w k s))
-      (tracked_aside x (tracked_left v (tracked_ticket w l k s.t (record s.t { settled = true }) s.may.out.there (settles s.t) (drew k s.t s.may.out.there)) s.t.op s.s.root named shards finals others (fin.remove w.deletes s.t.op) (λ d x e. (left_in w.deletes s.t.op d x e).1) (stays_in w.deletes s.t.op) cleans) w.blobs (suc s.n) w.pending w.completed w.doomed w.deposed)
+      (tracked_aside x (tracked_left v (tracked_ticket w l k s.t (record s.t { settled = true }) s.may.out.there (settles s.t) (drew k s.t s.may.out.there)) s.t.op s.s.root named shards finals others
+      (fin.remove w.deletes s.t.op) (λ d x e. (left_in w.deletes s.t.op d x e).1) (stays_in w.deletes s.t.op) cleans) w.blobs (suc s.n) w.pending w.completed w.doomed w.deposed)
     where
       it : FinalTracked w.root w.ops s.t s.info s.results
       it = l.finals k s.t s.info s.results s.made s.may.out.there s.may.out.out s.may.unsettled s.present s.work
 
       -- no cleanup's ticket has its op, which is of a snapshot
-      cleans : (j : ℕ) (u : Ticket) → fin.get (fin.insert w.tickets k (record s.t { settled = true })) j ≡ Some u → u.out ≡ true → u.term ≡ w.term → u.clean ≡ true → fin.get (fin.remove w.deletes s.t.op) u.op ≡ fin.get w.deletes u.op
+      cleans : (j : ℕ) (u : Ticket) → fin.get (fin.insert w.tickets k (record s.t { settled = true })) j ≡ Some u → u.out ≡ true → u.term ≡ w.term → u.clean ≡ true
+          → fin.get (fin.remove w.deletes s.t.op) u.op ≡ fin.get w.deletes u.op
       cleans j u e out pres clean =
           let h = (tracked_ticket w l k s.t (record s.t { settled = true }) s.may.out.there (settles s.t) (drew k s.t s.may.out.there)).deletions.cleaning j u e out pres clean in
           stays_in w.deletes s.t.op u.op (λ same. l.apart u.op it.op h.x (ap (fin.get w.ops) same ∙ it.op_there) h.there)
@@ -346,16 +357,16 @@ module _ (f : Formats) (size : ℕ) (w : World) (l : Tracked w) where
             final_apart w l y.op y.s y.s_there (λ q state. done_out q j (sym state ∙ y.state)) u.op y.op_there s.t s.info s.results it (sym same)
       ]
 
-      finals : (j : ℕ) (u : Ticket) (info : SnapInfo) (results : List ShardResult) (made : Command) → fin.get (fin.insert w.tickets k (record s.t { settled = true })) j ≡ Some u → u.out ≡ true → u.settled ≡ false → u.term ≡ w.term → u.work ≡ Finalize info results made
-          → (u.op ≢ s.t.op) × (s.s.root ≡ w.root)
+      finals : (j : ℕ) (u : Ticket) (info : SnapInfo) (results : List ShardResult) (made : Command) → fin.get (fin.insert w.tickets k (record s.t { settled = true })) j ≡ Some u → u.out ≡ true → u.settled ≡ false → u.term ≡ w.term
+          → u.work ≡ Finalize info results made → (u.op ≢ s.t.op) × (s.s.root ≡ w.root)
       finals j u info results made e out uns pres is = elim (was_in w.tickets k (record s.t { settled = true }) j u e) [
         | inl h ↦ absurd (true≢false (ap (λ (y : Ticket). y.settled) h.1 ∙ uns))
         | inr h ↦ absurd (h.0 (l.one_swap j k (record { t = u; there = h.1; out = out; unsettled = uns; present = pres; swaps = subst IsMaster (sym is) tt })
             (record { t = s.t; there = s.may.out.there; out = s.may.out.out; unsettled = s.may.unsettled; present = s.present; swaps = subst IsMaster (sym s.work) tt })))
       ]
 
-      others : (j : ℕ) (u : Ticket) (uuids : List ℕ) (plan : Option Swap) → fin.get (fin.insert w.tickets k (record s.t { settled = true })) j ≡ Some u → u.out ≡ true → u.settled ≡ false → u.term ≡ w.term → u.work ≡ Deleting uuids plan
-          → (u.op ≢ s.t.op) × (s.s.root ≡ w.root)
+      others : (j : ℕ) (u : Ticket) (uuids : List ℕ) (plan : Option Swap) → fin.get (fin.insert w.tickets k (record s.t { settled = true })) j ≡ Some u → u.out ≡ true → u.settled ≡ false → u.term ≡ w.term
+          → u.work ≡ Deleting uuids plan → (u.op ≢ s.t.op) × (s.s.root ≡ w.root)
       others j u uuids plan e out uns pres is = elim (was_in w.tickets k (record s.t { settled = true }) j u e) [
         | inl h ↦ absurd (true≢false (ap (λ (y : Ticket). y.settled) h.1 ∙ uns))
         | inr h ↦ absurd (h.0 (l.one_swap j k (record { t = u; there = h.1; out = out; unsettled = uns; present = pres; swaps = subst IsMaster (sym is) tt })
@@ -394,14 +405,14 @@ module _ (f : Formats) (size : ℕ) (w : World) (l : Tracked w) where
             l.apart d.may.t.op y.op x (ap (fin.get w.ops) (sym same) ∙ y.op_there) at
       ]
 
-      finals : (j : ℕ) (u : Ticket) (info : SnapInfo) (results : List ShardResult) (made : Command) → fin.get (fin.insert w.tickets k (record d.may.t { out = false })) j ≡ Some u → u.out ≡ true → u.settled ≡ false → u.term ≡ w.term → u.work ≡ Finalize info results made
-          → (u.op ≢ d.may.t.op) × (w.root ≡ w.root)
+      finals : (j : ℕ) (u : Ticket) (info : SnapInfo) (results : List ShardResult) (made : Command) → fin.get (fin.insert w.tickets k (record d.may.t { out = false })) j ≡ Some u → u.out ≡ true → u.settled ≡ false → u.term ≡ w.term
+          → u.work ≡ Finalize info results made → (u.op ≢ d.may.t.op) × (w.root ≡ w.root)
       finals j u info results made e out uns pres is =
           let y = l.finals j u info results made (out_was j u e out).1 out uns pres is in
           ((λ same. stopped y.op y.goes (ap (fin.get w.ops) (sym same) ∙ y.op_there)), refl)
 
-      others : (j : ℕ) (u : Ticket) (uuids : List ℕ) (plan : Option Swap) → fin.get (fin.insert w.tickets k (record d.may.t { out = false })) j ≡ Some u → u.out ≡ true → u.settled ≡ false → u.term ≡ w.term → u.work ≡ Deleting uuids plan
-          → (u.op ≢ d.may.t.op) × (w.root ≡ w.root)
+      others : (j : ℕ) (u : Ticket) (uuids : List ℕ) (plan : Option Swap) → fin.get (fin.insert w.tickets k (record d.may.t { out = false })) j ≡ Some u → u.out ≡ true → u.settled ≡ false → u.term ≡ w.term
+          → u.work ≡ Deleting uuids plan → (u.op ≢ d.may.t.op) × (w.root ≡ w.root)
       others j u uuids plan e out uns pres is =
           let was = out_was j u e out in
           let y = l.deleting j u uuids plan was.1 out uns pres is in (
@@ -414,7 +425,8 @@ module _ (f : Formats) (size : ℕ) (w : World) (l : Tracked w) where
             refl,
           )
 
-      cleans : (j : ℕ) (u : Ticket) → fin.get (fin.insert w.tickets k (record d.may.t { out = false })) j ≡ Some u → u.out ≡ true → u.term ≡ w.term → u.clean ≡ true → fin.get (fin.remove w.deletes d.may.t.op) u.op ≡ fin.get w.deletes u.op
+      cleans : (j : ℕ) (u : Ticket) → fin.get (fin.insert w.tickets k (record d.may.t { out = false })) j ≡ Some u → u.out ≡ true → u.term ≡ w.term → u.clean ≡ true
+          → fin.get (fin.remove w.deletes d.may.t.op) u.op ≡ fin.get w.deletes u.op
       cleans j u e out pres clean =
           let was = out_was j u e out in
           let h = l.deletions.cleaning j u was.1 out pres clean in
@@ -427,14 +439,17 @@ module _ (f : Formats) (size : ℕ) (w : World) (l : Tracked w) where
 
   -- ---- steps of a delete's ticket
 
-  plans : (k : ℕ) (shards : List PrunedShard) (image : Option Image) (p : MayPlan f w k shards image) → w.next_id + kept_count shards < first_id (suc w.term) → Tracked (record (change w k (planned f shards w.next_id)) { next_id = w.next_id + kept_count shards })
+  plans : (k : ℕ) (shards : List PrunedShard) (image : Option Image) (p : MayPlan f w k shards image) → w.next_id + kept_count shards < first_id (suc w.term)
+      → Tracked (record (change w k (planned f shards w.next_id)) { next_id = w.next_id + kept_count shards })
   plans k shards image p fits =
       let drawn : World = record w { next_id = w.next_id + kept_count shards } in
       subst (λ (o : Option Ticket). Tracked (record (with_given w k (planned f shards w.next_id) o) { next_id = w.next_id + kept_count shards })) (sym p.deleting.out.there)
       (subst (λ (x : Work). Tracked (record drawn { tickets = fin.insert w.tickets k (record p.t { first = w.next_id; drawn = kept_count shards; work = planned_work f p.t shards w.next_id x }) })) (sym p.deleting.work)
-      (tracked_planned drawn (tracked_drawn w l (kept_count shards) fits) k p.t p.deleting.out.there p.uuids None (Some (delete_swap f p.t.clean p.t.root p.t.read p.uuids shards w.next_id)) p.deleting.work w.next_id (kept_count shards) (omega arith) within))
+      (tracked_planned drawn (tracked_drawn w l (kept_count shards) fits) k p.t p.deleting.out.there p.uuids None
+      (Some (delete_swap f p.t.clean p.t.root p.t.read p.uuids shards w.next_id)) p.deleting.work w.next_id (kept_count shards) (omega arith) within))
     where
-      within : p.t.out ≡ true → p.t.settled ≡ false → p.t.term ≡ w.term → (s : Swap) → ◌≡◌ {A = Option Swap} (Some (delete_swap f p.t.clean p.t.root p.t.read p.uuids shards w.next_id)) (Some s) → IsWithin w.root s.root (w.next_id + kept_count shards)
+      within : p.t.out ≡ true → p.t.settled ≡ false → p.t.term ≡ w.term → (s : Swap) → ◌≡◌ {A = Option Swap} (Some (delete_swap f p.t.clean p.t.root p.t.read p.uuids shards w.next_id)) (Some s)
+          → IsWithin w.root s.root (w.next_id + kept_count shards)
       within out uns pres s is =
           let root_is : p.t.root ≡ w.root = (l.deleting k p.t p.uuids None p.deleting.out.there out uns pres p.deleting.work).root_is in
           let ids : RootIds p.t.root w.next_id = subst (λ (r : RootData). RootIds r w.next_id) (sym root_is) l.named.root_below in
@@ -446,7 +461,8 @@ module _ (f : Formats) (size : ℕ) (w : World) (l : Tracked w) where
       let v : World = record w { tickets = fin.insert w.tickets k (record s.t { settled = true }) } in
       let x : World = record v { root = s.s.root; ops = fin.remove w.ops s.t.op; deletes = deletes_left w s.t } in
       subst Tracked (sym (delete_settled_plain f w k s.n s.t s.s s.may))
-      (tracked_aside x (tracked_left v (tracked_ticket w l k s.t (record s.t { settled = true }) s.may.out.there (settles s.t) (drew k s.t s.may.out.there)) s.t.op s.s.root named shards finals others (deletes_left w s.t) (left_less s.t.clean) (left_more s.t.clean) (λ j u e out pres clean. cleans s.t.clean refl j u e out pres clean)) w.blobs (suc s.n) w.pending w.completed (dooms f s.t ++ w.doomed) w.deposed)
+      (tracked_aside x (tracked_left v (tracked_ticket w l k s.t (record s.t { settled = true }) s.may.out.there (settles s.t) (drew k s.t s.may.out.there)) s.t.op s.s.root named shards finals others (deletes_left w s.t)
+      (left_less s.t.clean) (left_more s.t.clean) (λ j u e out pres clean. cleans s.t.clean refl j u e out pres clean)) w.blobs (suc s.n) w.pending w.completed (dooms f s.t ++ w.doomed) w.deposed)
     where
       left_less : (b : Bool) (d : ℕ) (x : Deletion) → fin.get (if b then w.deletes else fin.remove w.deletes s.t.op) d ≡ Some x → fin.get w.deletes d ≡ Some x
       left_less true d x e = e
@@ -482,15 +498,15 @@ module _ (f : Formats) (size : ℕ) (w : World) (l : Tracked w) where
             l.apart s.t.op y.op it.x (ap (fin.get w.ops) (sym same) ∙ y.op_there) it.there
       ]
 
-      finals : (j : ℕ) (u : Ticket) (info : SnapInfo) (results : List ShardResult) (made : Command) → fin.get (fin.insert w.tickets k (record s.t { settled = true })) j ≡ Some u → u.out ≡ true → u.settled ≡ false → u.term ≡ w.term → u.work ≡ Finalize info results made
-          → (u.op ≢ s.t.op) × (s.s.root ≡ w.root)
+      finals : (j : ℕ) (u : Ticket) (info : SnapInfo) (results : List ShardResult) (made : Command) → fin.get (fin.insert w.tickets k (record s.t { settled = true })) j ≡ Some u → u.out ≡ true → u.settled ≡ false → u.term ≡ w.term
+          → u.work ≡ Finalize info results made → (u.op ≢ s.t.op) × (s.s.root ≡ w.root)
       finals j u info results made e out uns pres is = elim (was_in w.tickets k (record s.t { settled = true }) j u e) [
         | inl h ↦ absurd (true≢false (ap (λ (y : Ticket). y.settled) h.1 ∙ uns))
         | inr h ↦ absurd (h.0 (mine j (record { t = u; there = h.1; out = out; unsettled = uns; present = pres; swaps = subst IsMaster (sym is) tt })))
       ]
 
-      others : (j : ℕ) (u : Ticket) (uuids : List ℕ) (plan : Option Swap) → fin.get (fin.insert w.tickets k (record s.t { settled = true })) j ≡ Some u → u.out ≡ true → u.settled ≡ false → u.term ≡ w.term → u.work ≡ Deleting uuids plan
-          → (u.op ≢ s.t.op) × (s.s.root ≡ w.root)
+      others : (j : ℕ) (u : Ticket) (uuids : List ℕ) (plan : Option Swap) → fin.get (fin.insert w.tickets k (record s.t { settled = true })) j ≡ Some u → u.out ≡ true → u.settled ≡ false → u.term ≡ w.term
+          → u.work ≡ Deleting uuids plan → (u.op ≢ s.t.op) × (s.s.root ≡ w.root)
       others j u uuids plan e out uns pres is = elim (was_in w.tickets k (record s.t { settled = true }) j u e) [
         | inl h ↦ absurd (true≢false (ap (λ (y : Ticket). y.settled) h.1 ∙ uns))
         | inr h ↦ absurd (h.0 (mine j (record { t = u; there = h.1; out = out; unsettled = uns; present = pres; swaps = subst IsMaster (sym is) tt })))
@@ -514,7 +530,8 @@ module _ (f : Formats) (size : ℕ) (w : World) (l : Tracked w) where
           (subst (λ x. Tracked (if x then with_ticket w k (record c.t { out = false }) else delete_failed_by w k c.t (fin.get w.deletes c.t.op))) (sym is) h)
 
       -- no ticket of it is out any more
-      alone : c.t.term ≡ w.term → (j : ℕ) (u : Ticket) (uuids : List ℕ) (plan : Option Swap) → fin.get (fin.insert w.tickets k (record c.t { out = false })) j ≡ Some u → u.out ≡ true → u.settled ≡ false → u.term ≡ w.term → u.work ≡ Deleting uuids plan → u.op ≡ c.t.op → ⊥
+      alone : c.t.term ≡ w.term → (j : ℕ) (u : Ticket) (uuids : List ℕ) (plan : Option Swap) → fin.get (fin.insert w.tickets k (record c.t { out = false })) j ≡ Some u → u.out ≡ true → u.settled ≡ false → u.term ≡ w.term
+          → u.work ≡ Deleting uuids plan → u.op ≡ c.t.op → ⊥
       alone present j u uuids plan e out uns pres is same = elim (was_in w.tickets k (record c.t { out = false }) j u e) [
         | inl h ↦ true≢false (sym out ∙ ap (λ (y : Ticket). y.out) (sym h.1))
         | inr h ↦ elim c.may [
@@ -554,12 +571,14 @@ module _ (f : Formats) (size : ℕ) (w : World) (l : Tracked w) where
   prunes who prune reply image (SettleDeleteFails k im s present same) = falls w _ l (deletion_settles k s present) _ (blobs_in im w.blobs)
   prunes who prune reply image (RemovingDoomed k names im r removed) = kept w l (blobs_in im w.blobs)
   prunes who prune reply image (RemoveDoomedFails k names im r removes) = kept w l (blobs_in im w.blobs)
-  prunes who prune reply image (EndingDelete k im e same) = kept _ (changed k e.t e.deleting.out.there (λ (t : Ticket). record t { out = false }) (ended e.t (λ shard. subst IsShard e.deleting.work shard)) (drew k e.t e.deleting.out.there)) (blobs_in im w.blobs)
+  prunes who prune reply image (EndingDelete k im e same) =
+      kept _ (changed k e.t e.deleting.out.there (λ (t : Ticket). record t { out = false }) (ended e.t (λ shard. subst IsShard e.deleting.work shard)) (drew k e.t e.deleting.out.there)) (blobs_in im w.blobs)
   prunes who prune reply image (FailingDelete k why im c same) = kept _ (deletion_fails k c) (blobs_in im w.blobs)
 
   -- ---- a clone that is asked
 
-  asks_clone : (source name : Bytes) (names : List Bytes) (time : ℕ) (taken : Option CloneOf) (reply : Reply) (image : Option Image) → CloneAllows f w source name names time taken reply image → Tracked (stepped f w (moment 0 (AskStep (Clone source name names time taken)) reply image))
+  asks_clone : (source name : Bytes) (names : List Bytes) (time : ℕ) (taken : Option CloneOf) (reply : Reply) (image : Option Image) → CloneAllows f w source name names time taken reply image
+      → Tracked (stepped f w (moment 0 (AskStep (Clone source name names time taken)) reply image))
   asks_clone source name names time taken reply image (OpeningClone t o im acc) = kept _ (asks_copy source name names time o t im acc) (blobs_in im w.blobs)
   asks_clone source name names time taken reply image (CloneUsed uuid im clear is) = kept w l (blobs_in im w.blobs)
   asks_clone source name names time taken reply image (SourceNotListed im may none) = kept w l (blobs_in im w.blobs)

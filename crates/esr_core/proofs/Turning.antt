@@ -67,7 +67,8 @@ module _ (f : Formats) (w : World) (shelf : List Shelved) (l : Lawful f w shelf)
       }
 
   commit_lawful : (k : ℕ) (name : BlobName) (new : World) → CommitDone f w k name new → Lawful f new shelf
-  commit_lawful k name new c = record { sound = commit_law f w shelf l.sound k name new c; queue = subst QueueIn (sym c.new_is) (seen_same k c.t (writing c.t name c.bytes) c.out.there (like_of c.t (writing c.t name c.bytes) refl refl refl refl refl) refl refl refl) }
+  commit_lawful k name new c =
+      record { sound = commit_law f w shelf l.sound k name new c; queue = subst QueueIn (sym c.new_is) (seen_same k c.t (writing c.t name c.bytes) c.out.there (like_of c.t (writing c.t name c.bytes) refl refl refl refl refl) refl refl refl) }
 
   commit_fault_lawful : (k : ℕ) (name : BlobName) (new : World) → CommitFault f w k name new → Lawful f new shelf
   commit_fault_lawful k name new c = record {
@@ -76,16 +77,24 @@ module _ (f : Formats) (w : World) (shelf : List Shelved) (l : Lawful f w shelf)
   }
 
   raise_lawful : (k : ℕ) (new : World) → Raise f w k new → Lawful f new shelf
-  raise_lawful k new r = record { sound = raise_law f w shelf l.sound k new r; queue = subst QueueIn (sym r.new_is) (seen_same k r.t (record r.t { raised = Some w.pending }) r.out.there (like_of r.t (record r.t { raised = Some w.pending }) refl refl refl refl refl) refl refl refl) }
+  raise_lawful k new r = record {
+    sound = raise_law f w shelf l.sound k new r;
+    queue = subst QueueIn (sym r.new_is) (seen_same k r.t (record r.t { raised = Some w.pending }) r.out.there (like_of r.t (record r.t { raised = Some w.pending }) refl refl refl refl refl) refl refl refl);
+  }
 
   latest_lawful : (k : ℕ) (new : World) → TriesLatest f w k new → Lawful f new shelf
-  latest_lawful k new h = record { sound = latest_sound f w shelf l.sound k new h; queue = subst QueueIn (sym h.new_is) (seen_same k h.t (record h.t { tried_latest = true }) h.out.there (like_of h.t (record h.t { tried_latest = true }) refl refl refl refl refl) refl refl refl) }
+  latest_lawful k new h = record {
+    sound = latest_sound f w shelf l.sound k new h;
+    queue = subst QueueIn (sym h.new_is) (seen_same k h.t (record h.t { tried_latest = true }) h.out.there (like_of h.t (record h.t { tried_latest = true }) refl refl refl refl refl) refl refl refl);
+  }
 
   fetch_lawful : (k : ℕ) (name : BlobName) (new : World) → FetchFound f w k name new → Lawful f new shelf
-  fetch_lawful k name new h = record { sound = fetch_sound f w shelf l.sound k name new h; queue = subst QueueIn (sym h.new_is) (seen_same k h.t (reading h.t name h.bytes) h.out.there (like_of h.t (reading h.t name h.bytes) refl refl refl refl refl) refl refl refl) }
+  fetch_lawful k name new h =
+      record { sound = fetch_sound f w shelf l.sound k name new h; queue = subst QueueIn (sym h.new_is) (seen_same k h.t (reading h.t name h.bytes) h.out.there (like_of h.t (reading h.t name h.bytes) refl refl refl refl refl) refl refl refl) }
 
   exists_lawful : (x : Law f w shelf) (k : ℕ) (name : BlobName) (new : World) → CommitExists f w k name new → Lawful f new shelf
-  exists_lawful x k name new h = record { sound = exists_sound f w shelf x x.texts k name new h; queue = subst QueueIn (sym h.new_is) (seen_same k h.t (noting h.t name) h.out.there (like_of h.t (noting h.t name) refl refl refl refl refl) refl refl refl) }
+  exists_lawful x k name new h =
+      record { sound = exists_sound f w shelf x x.texts k name new h; queue = subst QueueIn (sym h.new_is) (seen_same k h.t (noting h.t name) h.out.there (like_of h.t (noting h.t name) refl refl refl refl refl) refl refl refl) }
 
   ends_lawful : (k : ℕ) (new : World) → Ends w k new → Lawful f new shelf
   ends_lawful k new h = record { sound = finish_sound f w shelf l.sound k new h; queue = subst QueueIn (sym h.new_is) (seen_same k h.t (record h.t { out = false }) h.out.there (like_ended h.t) refl refl refl) }
@@ -131,7 +140,8 @@ module _ (f : Formats) (w : World) (shelf : List Shelved) (l : Lawful f w shelf)
           let o = d.t.op in
           let x : Op = record d.op { shards = map (marked k (Done r)) d.op.shards } in
           queue_ops w.term w.root w.ops w.deletes w.completed w.next_op w.tickets l.queue (fin.insert w.ops o x) (completing w.completed o x.shards) (one_back w.ops o d.op x d.op_there ev) (one_forth w.ops o d.op x d.op_there ev)
-          (queued_back w.term w.root w.ops w.deletes w.completed w.next_op w.tickets l.queue (fin.insert w.ops o x) (one_back w.ops o d.op x d.op_there ev) (one_outs w.ops o d.op x d.op_there ev (outs_map (marked k (Done r)) (marked_outs k r) d.op.shards)))
+          (queued_back w.term w.root w.ops w.deletes w.completed w.next_op w.tickets l.queue (fin.insert w.ops o x)
+          (one_back w.ops o d.op x d.op_there ev) (one_outs w.ops o d.op x d.op_there ev (outs_map (marked k (Done r)) (marked_outs k r) d.op.shards)))
           (λ p y results e all. elim (was_in w.ops o x p y e) [
             | inr h ↦ completing_more w.completed o x.shards p (l.queue.completes p y results h.1 all)
             | inl h ↦ subst (Has (completing w.completed o x.shards)) (sym h.0) (completing_has w.completed o x.shards results (subst (λ (z : Op). AllDone z.shards results) (sym h.1) all))
@@ -181,4 +191,12 @@ turn_lawful f w new shelf law d (Tests m t) = tests_lawful f w shelf law m t
 turn_lawful f w new shelf law d (Besides m up h r) = lawful_aside f up m (shelf_after shelf (commands_of f w up h)) (aside_of f up m r) (turn_lawful f w up shelf law d h)
 
 pub turn_law : (f : Formats) (w new : World) (shelf : List Shelved) → Law f w shelf → w.deposed ≡ false → (turn : Turn f w new) → Law f new (shelf_after shelf (commands_of f w new turn))
-turn_law f w new shelf law d turn = record { lawful = turn_lawful f w new shelf law d turn; ids = turn_ids f w new shelf law d turn; deletions = turn_deletions f w new shelf law turn; in_term = turn_in_term f w new law.in_term turn; written = turn_written f w new shelf law turn; texts = turn_texted f w new shelf law turn; pruned = turn_pruned f w new shelf law turn }
+turn_law f w new shelf law d turn = record {
+  lawful = turn_lawful f w new shelf law d turn;
+  ids = turn_ids f w new shelf law d turn;
+  deletions = turn_deletions f w new shelf law turn;
+  in_term = turn_in_term f w new law.in_term turn;
+  written = turn_written f w new shelf law turn;
+  texts = turn_texted f w new shelf law turn;
+  pruned = turn_pruned f w new shelf law turn;
+}

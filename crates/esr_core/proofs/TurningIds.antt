@@ -67,11 +67,13 @@ module _ (f : Formats) (w : World) (shelf : List Shelved) (l : Law f w shelf) wh
   x = l.ids
 
   -- a ticket given anew, which changes nothing that ids are read from
-  again : (k : ℕ) (t v : Ticket) → fin.get w.tickets k ≡ Some t → TicketIds f w.next_id v → v.first ≡ t.first → v.drawn ≡ t.drawn → (v.out ≡ true → t.out ≡ true) → (IsShard v.work → IsShard t.work) → Ids f w.next_id w.blobs w.doomed w.root w.ops (fin.insert w.tickets k v)
+  again : (k : ℕ) (t v : Ticket) → fin.get w.tickets k ≡ Some t → TicketIds f w.next_id v → v.first ≡ t.first → v.drawn ≡ t.drawn → (v.out ≡ true → t.out ≡ true) → (IsShard v.work → IsShard t.work)
+      → Ids f w.next_id w.blobs w.doomed w.root w.ops (fin.insert w.tickets k v)
   again = ids_again f w.next_id w.blobs w.doomed w.root w.ops w.tickets l.ids
 
   -- the op's shards go on, none newly done
-  op_on : (g : ShardWork → ShardWork) (op : Op) (o : ℕ) (failed : Bool) → fin.get w.ops o ≡ Some op → ((s : ShardWork) (r : ShardResult) → (g s).state ≡ Done r → (s.state ≡ Done r) ⊎ (r.generation < w.next_id)) → OpIds w.next_id (record op { shards = map g op.shards; failed = failed })
+  op_on : (g : ShardWork → ShardWork) (op : Op) (o : ℕ) (failed : Bool) → fin.get w.ops o ≡ Some op → ((s : ShardWork) (r : ShardResult) → (g s).state ≡ Done r → (s.state ≡ Done r) ⊎ (r.generation < w.next_id))
+      → OpIds w.next_id (record op { shards = map g op.shards; failed = failed })
   op_on g op o failed there done =
       let h = l.ids.ops o op there in
       record {
@@ -102,7 +104,8 @@ module _ (f : Formats) (w : World) (shelf : List Shelved) (l : Law f w shelf) wh
       done_same : {a b : ShardResult} → Done a ≡ Done b → a ≡ b
       done_same e = cc
 
-  blob_was : (name : BlobName) (bytes : Bytes) (valid : IsStored f name) (absent : fin.get w.blobs (f.names.text name) ≡ None) → IdsBelow name w.next_id → (m : BlobName) → Present f (fin.insert w.blobs (f.names.text name) bytes) m → Present f w.blobs m ⊎ IdsBelow m w.next_id
+  blob_was : (name : BlobName) (bytes : Bytes) (valid : IsStored f name) (absent : fin.get w.blobs (f.names.text name) ≡ None) → IdsBelow name w.next_id → (m : BlobName) → Present f (fin.insert w.blobs (f.names.text name) bytes) m
+      → Present f w.blobs m ⊎ IdsBelow m w.next_id
   blob_was name bytes valid absent below m p = elim (at_was f w.blobs name bytes valid absent w.doomed m p.0 p.1) [
     | inr was ↦ inl (p.0, was)
     | inl is ↦ inr (subst (λ n. IdsBelow n w.next_id) (sym is.0) below)
@@ -115,11 +118,29 @@ module _ (f : Formats) (w : World) (shelf : List Shelved) (l : Law f w shelf) wh
   -- a ticket without a swap, and of no shard
   plain_ids : (o : ℕ) (work : Work) → (IsShard work → ⊥) → ((s : Swap) → swap f (plain_ticket w o work) ≡ Some s → ⊥) → TicketIds f w.next_id (plain_ticket w o work)
   plain_ids o work not none =
-      record { drawn = omega arith; uuid = λ s. absurd (not s); index = λ i j e. absurd (not (subst IsShard (sym e) tt)); base = λ b e. absurd (none-some b e); copy = l.ids.root; own = λ s e. absurd (none s e); root = λ s e. absurd (none s e); listed = λ name m. absurd m }
+      record {
+        drawn = omega arith;
+        uuid = λ s. absurd (not s);
+        index = λ i j e. absurd (not (subst IsShard (sym e) tt));
+        base = λ b e. absurd (none-some b e);
+        copy = l.ids.root;
+        own = λ s e. absurd (none s e);
+        root = λ s e. absurd (none s e);
+        listed = λ name m. absurd m;
+      }
 
   cleaning_ids : (o : ℕ) → TicketIds f w.next_id (cleaning_ticket w o)
   cleaning_ids o =
-      record { drawn = omega arith; uuid = λ s. absurd s; index = λ i j e. absurd (subst IsShard (sym e) tt); base = λ b e. absurd (none-some b e); copy = l.ids.root; own = λ s e. absurd (none-some s e); root = λ s e. absurd (none-some s e); listed = λ name m. absurd m }
+      record {
+        drawn = omega arith;
+        uuid = λ s. absurd s;
+        index = λ i j e. absurd (subst IsShard (sym e) tt);
+        base = λ b e. absurd (none-some b e);
+        copy = l.ids.root;
+        own = λ s e. absurd (none-some s e);
+        root = λ s e. absurd (none-some s e);
+        listed = λ name m. absurd m;
+      }
 
   shard_ids : (o : ℕ) (op : Op) (s : ShardWork) (base : Option ℕ) → fin.get w.ops o ≡ Some op → Has op.shards s → Largest w s.ref.id s.number base → TicketIds f w.next_id (shard_ticket w o op s base)
   shard_ids o op s base there m largest =
@@ -201,7 +222,9 @@ module _ (f : Formats) (w : World) (shelf : List Shelved) (l : Law f w shelf) wh
         base = old.base;
         copy = old.copy;
         listed = old.listed;
-        own = λ s e name b m. let z = d.own_drawn name b (subst (λ (y : Swap). Has y.own (name, b)) (sym (same_Some _ _ e)) m) in subst (λ q. IdsBelow q (w.next_id + n)) (sym z.3) (subst (λ q. q < w.next_id + n) z.6.2 (old.copy.ids z.6.0 z.6.1), z.5);
+        own = λ s e name b m.
+            let z = d.own_drawn name b (subst (λ (y : Swap). Has y.own (name, b)) (sym (same_Some _ _ e)) m) in
+            subst (λ q. IdsBelow q (w.next_id + n)) (sym z.3) (subst (λ q. q < w.next_id + n) z.6.2 (old.copy.ids z.6.0 z.6.1), z.5);
         root = λ s e. subst (λ (y : Swap). RootIds y.root (w.next_id + n)) (same_Some _ _ e) (record {
           generations = λ i x g gen. elim (d.without.generations i x g gen) [ inl was ↦ old.copy.generations i x g was | inr fresh ↦ (d.fresh_drawn i x g fresh).1 ];
           snapshots = λ s m. old.copy.snapshots s (left_has d.uuids d.t.root.snapshots s (subst (λ xs. Has xs s) d.without.snapshots m));
@@ -212,12 +235,15 @@ module _ (f : Formats) (w : World) (shelf : List Shelved) (l : Law f w shelf) wh
       }
 
   -- a ticket given anew in what isn't an id
-  quiet_ids : (k : ℕ) (t : Ticket) → fin.get w.tickets k ≡ Some t → (noted : List BlobName) (wrote read : List (BlobName × Bytes)) (raised : Option ℕ) (tried settled out : Bool) → TicketIds f w.next_id (record t { noted = noted; wrote = wrote; read = read; raised = raised; tried_latest = tried; settled = settled; out = out })
+  quiet_ids : (k : ℕ) (t : Ticket) → fin.get w.tickets k ≡ Some t → (noted : List BlobName) (wrote read : List (BlobName × Bytes)) (raised : Option ℕ) (tried settled out : Bool)
+      → TicketIds f w.next_id (record t { noted = noted; wrote = wrote; read = read; raised = raised; tried_latest = tried; settled = settled; out = out })
   quiet_ids k t there noted wrote read raised tried settled out = let h = l.ids.tickets k t there in record { drawn = h.drawn; uuid = h.uuid; index = h.index; base = h.base; copy = h.copy; own = h.own; root = h.root; listed = h.listed }
 
   -- a ticket that ends draws nothing more
-  ended_ids : (ops : Ops) (tickets_ids : Ids f w.next_id w.blobs w.doomed w.root ops w.tickets) (k : ℕ) (t : Ticket) → fin.get w.tickets k ≡ Some t → Ids f w.next_id w.blobs w.doomed w.root ops (fin.insert w.tickets k (record t { out = false }))
-  ended_ids ops h k t there = ids_again f w.next_id w.blobs w.doomed w.root ops w.tickets h k t (record t { out = false }) there (quiet_ids k t there t.noted t.wrote t.read t.raised t.tried_latest t.settled false) refl refl (λ e. absurd (true≢false (sym e))) (λ i. i)
+  ended_ids : (ops : Ops) (tickets_ids : Ids f w.next_id w.blobs w.doomed w.root ops w.tickets) (k : ℕ) (t : Ticket) → fin.get w.tickets k ≡ Some t
+      → Ids f w.next_id w.blobs w.doomed w.root ops (fin.insert w.tickets k (record t { out = false }))
+  ended_ids ops h k t there =
+      ids_again f w.next_id w.blobs w.doomed w.root ops w.tickets h k t (record t { out = false }) there (quiet_ids k t there t.noted t.wrote t.read t.raised t.tried_latest t.settled false) refl refl (λ e. absurd (true≢false (sym e))) (λ i. i)
 
   removed_ids : (o : ℕ) → Ids f w.next_id w.blobs w.doomed w.root (fin.remove w.ops o) w.tickets
   removed_ids o = ids_ops f w.next_id w.blobs w.doomed w.root w.ops w.tickets l.ids (fin.remove w.ops o) (λ p q e. let was = (left_in w.ops o p q e).1 in (l.ids.ops p q was, (p, q, was, refl)))
@@ -312,29 +338,37 @@ module _ (f : Formats) (w : World) (shelf : List Shelved) (l : Law f w shelf) wh
           doomed = settled_doomed;
           root = (l.ids.tickets k t d.may.out.there).root s d.may.is;
           ops = λ o op e. l.ids.ops o op (left_in w.ops t.op o op e).1;
-          tickets = λ j u e. elim (was_in w.tickets k (record t { settled = true }) j u e) [ inl h ↦ subst (TicketIds f w.next_id) h.1 (quiet_ids k t d.may.out.there t.noted t.wrote t.read t.raised t.tried_latest true t.out) | inr h ↦ l.ids.tickets j u h.1 ];
+          tickets = λ j u e.
+              elim (was_in w.tickets k (record t { settled = true }) j u e) [ inl h ↦ subst (TicketIds f w.next_id) h.1 (quiet_ids k t d.may.out.there t.noted t.wrote t.read t.raised t.tried_latest true t.out) | inr h ↦ l.ids.tickets j u h.1 ];
         }
 
   settled_ids : (k n : ℕ) (t : Ticket) (s : Swap) → IsOut w k t → swap f t ≡ Some s → Ids f w.next_id w.blobs w.doomed s.root (fin.remove w.ops t.op) (fin.insert w.tickets k (record t { settled = true }))
   settled_ids k n t s out is =
       ids_root f w.next_id w.blobs w.doomed w.root (fin.remove w.ops t.op) (fin.insert w.tickets k (record t { settled = true }))
-      (ids_again f w.next_id w.blobs w.doomed w.root (fin.remove w.ops t.op) w.tickets (removed_ids t.op) k t (record t { settled = true }) out.there (quiet_ids k t out.there t.noted t.wrote t.read t.raised t.tried_latest true t.out) refl refl (λ e. e) (λ i. i))
+      (ids_again f w.next_id w.blobs w.doomed w.root (fin.remove w.ops t.op) w.tickets (removed_ids t.op) k t (record t { settled = true }) out.there
+      (quiet_ids k t out.there t.noted t.wrote t.read t.raised t.tried_latest true t.out) refl refl (λ e. e) (λ i. i))
       s.root ((l.ids.tickets k t out.there).root s is)
 
 pub turn_ids : (f : Formats) (w new : World) (shelf : List Shelved) → Law f w shelf → w.deposed ≡ false → Turn f w new → IdsIn f new
 turn_ids f w new shelf l d (Stays m e) = subst (IdsIn f) (sym e) l.ids
 turn_ids f w new shelf l d (Commits m k name h) = subst (IdsIn f) (sym h.new_is)
     (ids_again f w.next_id (fin.insert w.blobs (f.names.text name) h.bytes) w.doomed w.root w.ops w.tickets
-    (ids_blobs f w.next_id w.blobs w.doomed w.root w.ops w.tickets l.ids (fin.insert w.blobs (f.names.text name) h.bytes) (blob_was f w shelf l name h.bytes h.named h.absent (commits_below f w.next_id h.t (l.ids.tickets k h.t h.out.there) name h.bytes h.may)))
+    (ids_blobs f w.next_id w.blobs w.doomed w.root w.ops w.tickets l.ids (fin.insert w.blobs (f.names.text name) h.bytes)
+    (blob_was f w shelf l name h.bytes h.named h.absent (commits_below f w.next_id h.t (l.ids.tickets k h.t h.out.there) name h.bytes h.may)))
     k h.t (writing h.t name h.bytes) h.out.there (quiet_ids f w shelf l k h.t h.out.there (name ∷ h.t.noted) ((name, h.bytes) ∷ h.t.wrote) h.t.read h.t.raised h.t.tried_latest h.t.settled h.t.out) refl refl (λ e. e) (λ i. i))
 turn_ids f w new shelf l d (CommitFails m k name h) = elim h.leaves [
   | inl e ↦ subst (IdsIn f) (sym e) l.ids
-  | inr e ↦ subst (IdsIn f) (sym e.1) (ids_blobs f w.next_id w.blobs w.doomed w.root w.ops w.tickets l.ids (fin.insert w.blobs (f.names.text name) h.bytes) (blob_was f w shelf l name h.bytes h.named e.0 (commits_below f w.next_id h.t (l.ids.tickets k h.t h.out.there) name h.bytes h.may)))
+  | inr e ↦ subst (IdsIn f) (sym e.1) (ids_blobs f w.next_id w.blobs w.doomed w.root w.ops w.tickets l.ids (fin.insert w.blobs (f.names.text name) h.bytes)
+      (blob_was f w shelf l name h.bytes h.named e.0 (commits_below f w.next_id h.t (l.ids.tickets k h.t h.out.there) name h.bytes h.may)))
 ]
-turn_ids f w new shelf l d (Raises m k h) = subst (IdsIn f) (sym h.new_is) (again f w shelf l k h.t (record h.t { raised = Some w.pending }) h.out.there (quiet_ids f w shelf l k h.t h.out.there h.t.noted h.t.wrote h.t.read (Some w.pending) h.t.tried_latest h.t.settled h.t.out) refl refl (λ e. e) (λ i. i))
-turn_ids f w new shelf l d (Latests m k h) = subst (IdsIn f) (sym h.tries.new_is) (again f (record w { blobs = h.now }) shelf (put_law f w shelf l h.now h.puts) k h.tries.t (record h.tries.t { tried_latest = true }) h.tries.out.there (quiet_ids f (record w { blobs = h.now }) shelf (put_law f w shelf l h.now h.puts) k h.tries.t h.tries.out.there h.tries.t.noted h.tries.t.wrote h.tries.t.read h.tries.t.raised true h.tries.t.settled h.tries.t.out) refl refl (λ e. e) (λ i. i))
-turn_ids f w new shelf l d (Finds m k name h) = subst (IdsIn f) (sym h.new_is) (again f w shelf l k h.t (noting h.t name) h.out.there (quiet_ids f w shelf l k h.t h.out.there (name ∷ h.t.noted) h.t.wrote h.t.read h.t.raised h.t.tried_latest h.t.settled h.t.out) refl refl (λ e. e) (λ i. i))
-turn_ids f w new shelf l d (Fetches m k name h) = subst (IdsIn f) (sym h.new_is) (again f w shelf l k h.t (reading h.t name h.bytes) h.out.there (quiet_ids f w shelf l k h.t h.out.there h.t.noted h.t.wrote ((name, h.bytes) ∷ h.t.read) h.t.raised h.t.tried_latest h.t.settled h.t.out) refl refl (λ e. e) (λ i. i))
+turn_ids f w new shelf l d (Raises m k h) = subst (IdsIn f) (sym h.new_is)
+    (again f w shelf l k h.t (record h.t { raised = Some w.pending }) h.out.there (quiet_ids f w shelf l k h.t h.out.there h.t.noted h.t.wrote h.t.read (Some w.pending) h.t.tried_latest h.t.settled h.t.out) refl refl (λ e. e) (λ i. i))
+turn_ids f w new shelf l d (Latests m k h) = subst (IdsIn f) (sym h.tries.new_is) (again f (record w { blobs = h.now }) shelf (put_law f w shelf l h.now h.puts) k h.tries.t (record h.tries.t { tried_latest = true }) h.tries.out.there
+    (quiet_ids f (record w { blobs = h.now }) shelf (put_law f w shelf l h.now h.puts) k h.tries.t h.tries.out.there h.tries.t.noted h.tries.t.wrote h.tries.t.read h.tries.t.raised true h.tries.t.settled h.tries.t.out) refl refl (λ e. e) (λ i. i))
+turn_ids f w new shelf l d (Finds m k name h) =
+    subst (IdsIn f) (sym h.new_is) (again f w shelf l k h.t (noting h.t name) h.out.there (quiet_ids f w shelf l k h.t h.out.there (name ∷ h.t.noted) h.t.wrote h.t.read h.t.raised h.t.tried_latest h.t.settled h.t.out) refl refl (λ e. e) (λ i. i))
+turn_ids f w new shelf l d (Fetches m k name h) = subst (IdsIn f) (sym h.new_is)
+    (again f w shelf l k h.t (reading h.t name h.bytes) h.out.there (quiet_ids f w shelf l k h.t h.out.there h.t.noted h.t.wrote ((name, h.bytes) ∷ h.t.read) h.t.raised h.t.tried_latest h.t.settled h.t.out) refl refl (λ e. e) (λ i. i))
 turn_ids f w new shelf l d (SettlesFinal m k n t s h) = subst (IdsIn f) (sym h.new_is) (settled_ids f w shelf l k n t s h.may.out h.may.is)
 turn_ids f w new shelf l d (SettlesDelete m k n t s h) = subst (IdsIn f) (sym h.new_is) (settled_delete_ids f w shelf l k n t s m h)
 turn_ids f w new shelf l d (Elects m h) = subst (IdsIn f) (sym h.new_is) (ids_up f w.next_id (first_id (suc w.term)) (let b : w.next_id < first_id (suc w.term) = l.in_term.below in omega (arith, b)) w.blobs w.doomed w.root w.ops w.tickets l.ids)
@@ -343,9 +377,12 @@ turn_ids f w new shelf l d (TakesShard m o op s base h) = subst (IdsIn f) (sym h
     ids_new f w.next_id w.blobs w.doomed w.root (fin.insert w.ops o now) w.tickets
     (ops_on f w shelf l o op now h.ready.op_there refl (op_on f w shelf l (given w.next_ticket s.ref.id s.number) op o op.failed h.ready.op_there (λ z r e. inl (given_done f w shelf l w.next_ticket s.ref.id s.number z r e))))
     w.next_ticket (shard_ticket w o op s base) (shard_ids f w shelf l o op s base h.ready.op_there h.ready.s_there h.largest) refl)
-turn_ids f w new shelf l d (TakesFinal m o op results h) = subst (IdsIn f) (sym h.new_is) (ids_new f w.next_id w.blobs w.doomed w.root w.ops w.tickets l.ids w.next_ticket (final_ticket f w o op results) (final_ids f w shelf l o op results h.ready.op_there h.ready.done) refl)
-turn_ids f w new shelf l d (TakesDrop m o h) = subst (IdsIn f) (sym h.new_is) (ids_new f w.next_id w.blobs w.doomed w.root w.ops w.tickets l.ids w.next_ticket (plain_ticket w o Drop) (plain_ids f w shelf l o Drop (λ s. s) (λ s e. none-some s e)) refl)
-turn_ids f w new shelf l d (TakesDelete m n y h) = subst (IdsIn f) (sym h.new_is) (ids_new f w.next_id w.blobs w.doomed w.root w.ops w.tickets l.ids w.next_ticket (plain_ticket w n (Deleting y.uuids None)) (plain_ids f w shelf l n (Deleting y.uuids None) (λ s. s) (λ s e. none-some s e)) refl)
+turn_ids f w new shelf l d (TakesFinal m o op results h) =
+    subst (IdsIn f) (sym h.new_is) (ids_new f w.next_id w.blobs w.doomed w.root w.ops w.tickets l.ids w.next_ticket (final_ticket f w o op results) (final_ids f w shelf l o op results h.ready.op_there h.ready.done) refl)
+turn_ids f w new shelf l d (TakesDrop m o h) =
+    subst (IdsIn f) (sym h.new_is) (ids_new f w.next_id w.blobs w.doomed w.root w.ops w.tickets l.ids w.next_ticket (plain_ticket w o Drop) (plain_ids f w shelf l o Drop (λ s. s) (λ s e. none-some s e)) refl)
+turn_ids f w new shelf l d (TakesDelete m n y h) =
+    subst (IdsIn f) (sym h.new_is) (ids_new f w.next_id w.blobs w.doomed w.root w.ops w.tickets l.ids w.next_ticket (plain_ticket w n (Deleting y.uuids None)) (plain_ids f w shelf l n (Deleting y.uuids None) (λ s. s) (λ s e. none-some s e)) refl)
 turn_ids f w new shelf l d (DrawsShard m k n h) = subst (IdsIn f) (sym h.new_is)
     (let le : w.next_id ≤ w.next_id + n = omega arith in
     let old = ticket_up f h.t w.next_id (w.next_id + n) le (l.ids.tickets k h.t h.out.there) in

@@ -58,10 +58,18 @@ module _ (f : Formats) (blobs : Blobs) (tickets : Tickets) (h : Written f blobs 
   ]
 
   -- one given anew in what its blobs don't read
-  same : (k : ℕ) (t v : Ticket) → fin.get tickets k ≡ Some t → (v.out ≡ true → t.out ≡ true) → v.wrote ≡ t.wrote → v.read ≡ t.read → v.base ≡ t.base → v.source ≡ t.source → v.work ≡ t.work → v.uuid ≡ t.uuid → v.first ≡ t.first → v.drawn ≡ t.drawn → Written f blobs (fin.insert tickets k v)
+  same : (k : ℕ) (t v : Ticket) → fin.get tickets k ≡ Some t → (v.out ≡ true → t.out ≡ true) → v.wrote ≡ t.wrote → v.read ≡ t.read → v.base ≡ t.base → v.source ≡ t.source → v.work ≡ t.work → v.uuid ≡ t.uuid
+      → v.first ≡ t.first → v.drawn ≡ t.drawn → Written f blobs (fin.insert tickets k v)
   same k t v there out wrote read base source work uuid first drawn = put k v (λ o s.
       let old = h k t there (out o) (subst IsShard work s) in
-      record { there = λ name b m. old.there name b (subst (λ xs. Has xs (name, b)) wrote m); own = λ name b m. again t v work uuid first drawn name (old.own name b (subst (λ xs. Has xs (name, b)) wrote m)); base = λ i s g b is at m. old.base i s g b (sym work ∙ is) (sym base ∙ at) (subst (λ xs. Has xs (ShardIndex i s g, b)) read m); source = λ i s u b is at m. old.source i s u b (sym work ∙ is) (sym source ∙ at) (subst (λ xs. Has xs (ShardSnap i s u, b)) read m); fresh = λ i s g held is at reads e m id drew. old.fresh i s g held (sym work ∙ is) (sym base ∙ at) reads e m id (record { from = subst (λ n. n ≤ id) first drew.from; below = subst (λ n. id < n) (λ j. first j + drawn j) drew.below }) })
+      record {
+        there = λ name b m. old.there name b (subst (λ xs. Has xs (name, b)) wrote m);
+        own = λ name b m. again t v work uuid first drawn name (old.own name b (subst (λ xs. Has xs (name, b)) wrote m));
+        base = λ i s g b is at m. old.base i s g b (sym work ∙ is) (sym base ∙ at) (subst (λ xs. Has xs (ShardIndex i s g, b)) read m);
+        source = λ i s u b is at m. old.source i s u b (sym work ∙ is) (sym source ∙ at) (subst (λ xs. Has xs (ShardSnap i s u, b)) read m);
+        fresh = λ i s g held is at reads e m id drew.
+            old.fresh i s g held (sym work ∙ is) (sym base ∙ at) reads e m id (record { from = subst (λ n. n ≤ id) first drew.from; below = subst (λ n. id < n) (λ j. first j + drawn j) drew.below });
+      })
 
   -- one that has ended
   ended : (k : ℕ) (v : Ticket) → v.out ≡ false → Written f blobs (fin.insert tickets k v)
@@ -70,7 +78,13 @@ module _ (f : Formats) (blobs : Blobs) (tickets : Tickets) (h : Written f blobs 
   -- a new one
   new_one : (k : ℕ) (v : Ticket) → v.wrote ≡ [] → v.read ≡ [] → v.drawn ≡ 0 → Written f blobs (fin.insert tickets k v)
   new_one k v none unread undrawn =
-      put k v (λ o s. record { there = λ name b m. absurd (subst (λ xs. Has xs (name, b)) none m); own = λ name b m. absurd (subst (λ xs. Has xs (name, b)) none m); base = λ i x g b is at m. absurd (subst (λ xs. Has xs (ShardIndex i x g, b)) unread m); source = λ i x u b is at m. absurd (subst (λ xs. Has xs (ShardSnap i x u, b)) unread m); fresh = λ i x g held is at reads e m id drew. absurd (let a : v.first ≤ id = drew.from in let b : id < v.first + v.drawn = drew.below in omega (arith, undrawn, a, b)) })
+      put k v (λ o s. record {
+        there = λ name b m. absurd (subst (λ xs. Has xs (name, b)) none m);
+        own = λ name b m. absurd (subst (λ xs. Has xs (name, b)) none m);
+        base = λ i x g b is at m. absurd (subst (λ xs. Has xs (ShardIndex i x g, b)) unread m);
+        source = λ i x u b is at m. absurd (subst (λ xs. Has xs (ShardSnap i x u, b)) unread m);
+        fresh = λ i x g held is at reads e m id drew. absurd (let a : v.first ≤ id = drew.from in let b : id < v.first + v.drawn = drew.below in omega (arith, undrawn, a, b));
+      })
 
 -- of a ticket that is no shard's
 no_shard : (f : Formats) (blobs : Blobs) (v : Ticket) → (IsShard v.work → ⊥) → v.out ≡ true → IsShard v.work → WroteLaw f blobs v
@@ -89,8 +103,8 @@ module _ (f : Formats) (w : World) (shelf : List Shelved) (l : Law f w shelf) (h
       let law = l.lawful.sound.carried.shards k t there out i s is in
       (subst (Base f (HeldIn f w) w.root w.ops i s) at law.base).1.stands
 
-  pub base_was : (k : ℕ) (t : Ticket) → fin.get w.tickets k ≡ Some t → t.out ≡ true → (i s g : ℕ) (held : ShardFiles) → t.work ≡ Shard i s → t.base ≡ Some g → (now : Blobs) → ((m : BlobName) (b : Bytes) → At f w.blobs m b → At f now m b)
-      → Reads (At f now) (ShardIndex i s g) f.shard_index held → Reads (At f w.blobs) (ShardIndex i s g) f.shard_index held
+  pub base_was : (k : ℕ) (t : Ticket) → fin.get w.tickets k ≡ Some t → t.out ≡ true → (i s g : ℕ) (held : ShardFiles) → t.work ≡ Shard i s → t.base ≡ Some g → (now : Blobs)
+      → ((m : BlobName) (b : Bytes) → At f w.blobs m b → At f now m b) → Reads (At f now) (ShardIndex i s g) f.shard_index held → Reads (At f w.blobs) (ShardIndex i s g) f.shard_index held
   base_was k t there out i s g held is at now kept reads =
       let old = (base_stands k t there out i s g is at).held_reads in
       let same : reads.bytes ≡ old.bytes = same_Some _ _ (sym reads.there.0 ∙ (kept (ShardIndex i s g) old.bytes old.there.0).0) in
@@ -110,7 +124,13 @@ module _ (f : Formats) (w : World) (shelf : List Shelved) (l : Law f w shelf) (h
   pub grown : (name : BlobName) (bytes : Bytes) → IsStored f name → fin.get w.blobs (f.names.text name) ≡ None → Written f (fin.insert w.blobs (f.names.text name) bytes) w.tickets
   grown name bytes named absent j u e out shard =
       let old = h j u e out shard in
-      record { there = λ m b has. at_kept f w.blobs name bytes named absent [] m b (old.there m b has); own = old.own; base = λ i s g b is at has. at_kept f w.blobs name bytes named absent [] (ShardIndex i s g) b (old.base i s g b is at has); source = λ i s u b is at has. at_kept f w.blobs name bytes named absent [] (ShardSnap i s u) b (old.source i s u b is at has); fresh = λ i s g held is at reads. old.fresh i s g held is at (base_was j u e out i s g held is at _ (at_kept f w.blobs name bytes named absent []) reads) }
+      record {
+        there = λ m b has. at_kept f w.blobs name bytes named absent [] m b (old.there m b has);
+        own = old.own;
+        base = λ i s g b is at has. at_kept f w.blobs name bytes named absent [] (ShardIndex i s g) b (old.base i s g b is at has);
+        source = λ i s u b is at has. at_kept f w.blobs name bytes named absent [] (ShardSnap i s u) b (old.source i s u b is at has);
+        fresh = λ i s g held is at reads. old.fresh i s g held is at (base_was j u e out i s g held is at _ (at_kept f w.blobs name bytes named absent []) reads);
+      }
 
   committed : (k : ℕ) (name : BlobName) (new : World) → CommitDone f w k name new → Written f new.blobs new.tickets
   committed k name new c = subst (λ (x : World). Written f x.blobs x.tickets) (sym c.new_is)
@@ -215,7 +235,13 @@ module _ (f : Formats) (w : World) (shelf : List Shelved) (l : Law f w shelf) (h
   drawn_shard k n new d = subst (λ (x : World). Written f x.blobs x.tickets) (sym d.new_is)
       (put f w.blobs w.tickets h k (record d.t { first = w.next_id; drawn = n }) (λ o s.
       let old = h k d.t d.out.there d.out.out s in
-      record { there = old.there; own = λ m b has. early d.t (record d.t { first = w.next_id; drawn = n }) refl refl d.once m (old.own m b has); base = old.base; source = old.source; fresh = λ i s g held is at reads e m id drew. base_below k d.t d.out.there d.out.out i s g held is at reads e m id drew.from }))
+      record {
+        there = old.there;
+        own = λ m b has. early d.t (record d.t { first = w.next_id; drawn = n }) refl refl d.once m (old.own m b has);
+        base = old.base;
+        source = old.source;
+        fresh = λ i s g held is at reads e m id drew. base_below k d.t d.out.there d.out.out i s g held is at reads e m id drew.from;
+      }))
 
 tested : (f : Formats) (w : World) (shelf : List Shelved) → Law f w shelf → Written f w.blobs w.tickets → (new : World) → TestTurn f w new → Written f new.blobs new.tickets
 tested f w shelf l h new (DrawsTest m d) = subst (λ (x : World). Written f x.blobs x.tickets) (sym d.new_is) h
@@ -231,7 +257,8 @@ turned f w new shelf l h (CommitFails m k name c) = elim c.leaves [
 ]
 turned f w new shelf l h (Finds m k name d) = subst (λ (x : World). Written f x.blobs x.tickets) (sym d.new_is) (same f w.blobs w.tickets h k d.t (noting d.t name) d.out.there (λ o. o) refl refl refl refl refl refl refl refl)
 turned f w new shelf l h (Raises m k d) = subst (λ (x : World). Written f x.blobs x.tickets) (sym d.new_is) (same f w.blobs w.tickets h k d.t (record d.t { raised = Some w.pending }) d.out.there (λ o. o) refl refl refl refl refl refl refl refl)
-turned f w new shelf l h (Latests m k d) = subst (λ (x : World). Written f x.blobs x.tickets) (sym d.tries.new_is) (same f d.now w.tickets (put_law f w shelf l d.now d.puts).written k d.tries.t (record d.tries.t { tried_latest = true }) d.tries.out.there (λ o. o) refl refl refl refl refl refl refl refl)
+turned f w new shelf l h (Latests m k d) = subst (λ (x : World). Written f x.blobs x.tickets) (sym d.tries.new_is)
+    (same f d.now w.tickets (put_law f w shelf l d.now d.puts).written k d.tries.t (record d.tries.t { tried_latest = true }) d.tries.out.there (λ o. o) refl refl refl refl refl refl refl refl)
 turned f w new shelf l h (Fetches m k name c) = fetched f w shelf l h k name m c
 turned f w new shelf l h (SettlesFinal m k n t s d) = subst (λ (x : World). Written f x.blobs x.tickets) (sym d.new_is) (same f w.blobs w.tickets h k t (record t { settled = true }) d.may.out.there (λ o. o) refl refl refl refl refl refl refl refl)
 turned f w new shelf l h (SettlesDelete m k n t s d) = subst (λ (x : World). Written f x.blobs x.tickets) (sym d.new_is) (same f w.blobs w.tickets h k t (record t { settled = true }) d.may.out.there (λ o. o) refl refl refl refl refl refl refl refl)

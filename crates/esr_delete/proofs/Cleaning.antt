@@ -281,7 +281,8 @@ places_once root shards are = apart_once shards (of_root_apart root shards are)
 
 -- ---- after a cleanup
 
-module _ (s : Start) (t : Ticket) (uuids : List ℕ) (held now : List HeldShard) (shards : List PrunedShard) (first : ℕ) (root : RootData) (d : IsDraft s t uuids held shards first root) (cleans : t.clean ≡ true) (after : Renewed held now shards (uuids_of root)) where
+module _ (s : Start) (t : Ticket) (uuids : List ℕ) (held now : List HeldShard) (shards : List PrunedShard) (first : ℕ) (root : RootData)
+    (d : IsDraft s t uuids held shards first root) (cleans : t.clean ≡ true) (after : Renewed held now shards (uuids_of root)) where
   abbrev f : Formats
   f = formats_of s
 

@@ -1,8 +1,7 @@
 -- From the settle of a delete or cleanup to its end.
-use Rattle.std.proofs.Common.{◌≡◌, ◌≤◌, ◌↔◌, ⊎_elim, ℕ, Bool, true, false, List, map, Some, None, Result, Ok, Err, IfErr, OnOk, OnErr, refl, sym, ap, ◌∙◌, subst}
+use Rattle.std.proofs.Common.{◌≡◌, ◌≤◌, ◌↔◌, ⊎_elim, ℕ, Bool, true, false, List, map, Some, None, Result, Ok, Err, OnOk, OnErr, refl, sym, ap, ◌∙◌, subst}
 use Rattle.std.specs.List.{AllByRecursion}
-use Rattle.std.specs.Result.{IsErrAnd}
-use Rattle.esr_model.specs.Lists.{Has-mapped, Has-map}
+use Rattle.esr_model.specs.Lists.{Has-mapped, Has-map, all_has}
 use Rattle.esr_names.specs.declared.blob.BlobName.{BlobName as CodeName}
 use Rattle.esr_names.specs.Layout.{IsName}
 use Rattle.esr_model.specs.Names.{BlobName}
@@ -13,7 +12,6 @@ use Rattle.esr_core.specs.Past.{IsRemoval}
 use Rattle.esr_core.specs.Allowed.{HasPutLatest}
 use Rattle.esr_core.specs.Entry.{SettlePruned, RemoveDoomed, EndDelete, DroppedStep, PruneStep, Reply, HasEnded, Moment}
 use Rattle.esr_formats.specs.Names.{name_of}
-use Rattle.esr_reach.specs.Members.{all_has}
 use Rattle.esr_desk.specs.declared.refusal.StepRefusal.{StepRefusal}
 use Rattle.esr_desk.specs.Start.{Start, formats_of, ticket_of, world_of}
 use Rattle.esr_desk.specs.Own.{made_of}
@@ -27,15 +25,6 @@ use Rattle.esr_desk.specs.Delete.Named.{AreNamed, ended_named}
 use Rattle.esr_desk.specs.Delete.Cleaned.{AreGone, NoneFailed, none_failed_yet, none_failed_on}
 use Rattle.esr_delete.specs.Ticket.{IsOver}
 use Rattle.esr_delete.specs.Removed.{NoneRemoved, AreUnnamed, IsSettledPlan, MayRemove, HasRemoved, IsCleared}
-
--- an error that was made of a step's refusal
-pub passed_on : {T E : Type 0} (result : Result T E) (P : E → Type 0) (e : E) → IsErrAnd result (λ x. x ≡ e) → P e → IfErr result P
-passed_on (Ok x) P e is holds = tt
-passed_on (Err y) P e is holds = subst P (sym is) holds
-
-pub any_err : {T E : Type 0} (result : Result T E) (P : Type 0) → P → OnErr result P
-any_err (Ok x) P h = tt
-any_err (Err e) P h = h
 
 -- ---- what it dooms
 

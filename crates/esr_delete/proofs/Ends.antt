@@ -36,7 +36,8 @@ given_late e s old mid new who (units.Stopped refusal) same given = (inl (given.
 
 -- that of the settle
 pub settle_halted : {S F H T : Type 0} (clean : Bool) (e : Evidence S F H T) (s : Start) (old mid new : List Moment) (who : ℕ) (refusal : StepRefusal) (result : UnitRefusal)
-    → LeftBy {X = Unit {0}} (IsSettled (ticket_of s old who)) (Err refusal) (ticket_of s old who) (ticket_of s mid who) → IsRefusedBy s old mid who (PruneStep SettlePruned) refusal → IsSwapRefused hands.Delete e s mid new who refusal result → IsHalted clean e s old new who result
+    → LeftBy {X = Unit {0}} (IsSettled (ticket_of s old who)) (Err refusal) (ticket_of s old who) (ticket_of s mid who) → IsRefusedBy s old mid who (PruneStep SettlePruned) refusal → IsSwapRefused hands.Delete e s mid new who refusal result
+    → IsHalted clean e s old new who result
 settle_halted {S} {F} {H} {T} clean e s old mid new who refusal result left refused (inl (fault, is, same)) =
     subst (λ (log : List Moment). IsHalted {S = S} {F = F} {H = H} {T = T} clean e s old log who result) (sym same)
     (subst (IsHalted {S = S} {F = F} {H = H} {T = T} clean e s old mid who) (sym is) (settle_stops clean s old mid who refusal fault left refused.0))
@@ -45,7 +46,8 @@ settle_halted clean e s old mid new who refusal result left refused (inr (other,
 
 -- that by which the op of a cleanup leaves
 pub drop_refused : {S F H T : Type 0} (e : Evidence S F H T) (s : Start) (old mid new : List Moment) (who : ℕ) (refusal : StepRefusal) (result : UnitRefusal)
-    → LeftBy {X = Unit {0}} (HasEndedAs (ticket_of s old who)) (Err refusal) (ticket_of s old who) (ticket_of s mid who) → IsRefusedBy s old mid who DroppedStep refusal → IsSwapRefused hands.Delete e s mid new who refusal result → IsCleanRefused e s old new who result
+    → LeftBy {X = Unit {0}} (HasEndedAs (ticket_of s old who)) (Err refusal) (ticket_of s old who) (ticket_of s mid who) → IsRefusedBy s old mid who DroppedStep refusal → IsSwapRefused hands.Delete e s mid new who refusal result
+    → IsCleanRefused e s old new who result
 drop_refused {S} {F} {H} {T} e s old mid new who refusal result left refused (inl (fault, is, same)) =
     subst (λ (log : List Moment). IsCleanRefused {S = S} {F = F} {H = H} {T = T} e s old log who result) (sym same)
     (subst (IsCleanRefused {S = S} {F = F} {H = H} {T = T} e s old mid who) (sym is) (drop_stops s old mid who refusal fault left refused.0))
@@ -61,7 +63,8 @@ clean_refused_on e s old mid new who (units.Stopped refusal) same h = (subst (λ
 
 -- ---- after the settle
 
-left_late : (clean : Bool) (log : List Moment) (who : ℕ) (refusal : StepRefusal) (old mid new : Ticket) → clean ≡ true → mid ≡ record old { settled = true } → IsStillOrEnded log who refusal mid new → IsLeftAt clean log who refusal old new
+left_late : (clean : Bool) (log : List Moment) (who : ℕ) (refusal : StepRefusal) (old mid new : Ticket) → clean ≡ true → mid ≡ record old { settled = true } → IsStillOrEnded log who refusal mid new
+    → IsLeftAt clean log who refusal old new
 left_late clean log who refusal old mid new cleans settled (inl same) = inl (inr (same ∙ settled))
 left_late clean log who refusal old mid new cleans settled (inr (ended, fell)) = inr (cleans, ended ∙ ap (λ (t : Ticket). record t { out = false }) settled, fell)
 
@@ -74,8 +77,8 @@ clean_halted clean e s old mid new who (units.Stopped refusal) cleans settled h 
   subst (λ (c : Bool). Stops c s new who refusal) (sym cleans) h.1,
 )
 
-pub late_halted : {S F H T : Type 0} (clean : Bool) (e : Evidence S F H T) (s : Start) (old mid new : List Moment) (who : ℕ) (result : UnitRefusal) → ticket_of s mid who ≡ record (ticket_of s old who) { settled = true } → IsLateRefused clean e s mid new who result
-    → IsHalted clean e s old new who result
+pub late_halted : {S F H T : Type 0} (clean : Bool) (e : Evidence S F H T) (s : Start) (old mid new : List Moment) (who : ℕ) (result : UnitRefusal) → ticket_of s mid who ≡ record (ticket_of s old who) { settled = true }
+    → IsLateRefused clean e s mid new who result → IsHalted clean e s old new who result
 late_halted {S} {F} {H} {T} clean e s old mid new who result settled (inl (deletes, (refusal, is, same, halts))) =
     subst (IsHalted {S = S} {F = F} {H = H} {T = T} clean e s old new who) (sym is) (inl (inr (same ∙ settled)), halts_stops clean s new who refusal halts)
 late_halted clean e s old mid new who result settled (inr (cleans, refused)) = clean_halted clean e s old mid new who result cleans settled refused

@@ -1,6 +1,5 @@
 -- What the steps before the settle make of the ticket of a delete or cleanup.
-use Rattle.std.proofs.Common.{◌≡◌, ℕ, Bool, true, true≢false, List, ◌∷◌, Option, Some, None, Result, Ok, Err, IfErr, refl, sym, ap, ◌∙◌, subst}
-use Rattle.std.specs.Result.{IsErrAnd}
+use Rattle.std.proofs.Common.{◌≡◌, ℕ, Bool, true, true≢false, List, ◌∷◌, Option, Some, None, refl, sym, ap, ◌∙◌, subst}
 use Rattle.esr_model.specs.Names.{BlobName}
 use Rattle.esr_model.specs.Values.{Bytes, Formats}
 use Rattle.esr_model.specs.Delete.{PrunedShard, kept_count}
@@ -27,11 +26,6 @@ use Rattle.esr_finish.specs.Stops.{writing_works}
 use Rattle.esr_delete.specs.Gathered.{HasRead}
 use Rattle.esr_delete.specs.Planned.{IsPruner}
 use Rattle.esr_delete.specs.Went.{Worked}
-
--- an error that was made of another
-pub passed : {T E : Type 0} (r : Result T E) (P : E → Type 0) (e : E) → IsErrAnd r (λ x. x ≡ e) → P e → IfErr r P
-passed (Ok x) P e is holds = tt
-passed (Err y) P e is holds = subst P (sym is) holds
 
 -- ---- the ticket
 
@@ -111,7 +105,18 @@ worked_on a b c first second =
       whole = second.whole;
       is =
           second.is
-          ∙ ap (λ (t : Ticket). record t { work = Deleting second.uuids second.plan; first = second.first; drawn = second.drawn; noted = second.noted; wrote = second.wrote; read = second.read; raised = second.raised; tried_latest = second.tried; listed = second.listed; whole = second.whole })
+          ∙ ap (λ (t : Ticket). record t {
+            work = Deleting second.uuids second.plan;
+            first = second.first;
+            drawn = second.drawn;
+            noted = second.noted;
+            wrote = second.wrote;
+            read = second.read;
+            raised = second.raised;
+            tried_latest = second.tried;
+            listed = second.listed;
+            whole = second.whole;
+          })
           first.is;
     }
 

@@ -54,7 +54,8 @@ some_files : (x y : ShardFiles) → ◌≡◌ {A = Option ShardFiles} (Some x) (
 some_files x y e = cc
 
 -- the index that is held is that of the shard
-pub is_own : (s : Start) (t : Ticket) (held : List HeldShard) (left : List ℕ) (p : PrunedShard) (id : ℕ) (is : IsIndexOf s t held left p id) (index : IndexValue) → ◌≡◌ {A = Option ShardFiles} (Some (shard_index_of index)) (held_at held p.index p.number) → shard_index_of index ≡ is.files
+pub is_own : (s : Start) (t : Ticket) (held : List HeldShard) (left : List ℕ) (p : PrunedShard) (id : ℕ) (is : IsIndexOf s t held left p id) (index : IndexValue)
+    → ◌≡◌ {A = Option ShardFiles} (Some (shard_index_of index)) (held_at held p.index p.number) → shard_index_of index ≡ is.files
 is_own s t held left p id is index found = some_files (shard_index_of index) is.files (found ∙ is.is_held)
 
 pub may_store : (s : Start) (t : Ticket) (held : List HeldShard) (left : List ℕ) (p : PrunedShard) (id : ℕ) (files : ShardFiles) → (is : IsIndexOf s t held left p id) → files ≡ is.files → p.kept ≡ true
@@ -134,7 +135,8 @@ blobs_more : (f : Formats) (read : List (BlobName × Bytes)) (left : List ℕ) (
     → pruned_blobs f read left first (xs ++ p ∷ []) ≡ pruned_blobs f read left first xs ++ pruned_blobs f read left (first + kept_count xs) (p ∷ [])
 blobs_more f read left first [] p = ap (λ (n : ℕ). pruned_blobs f read left n (p ∷ [])) (plus_none first)
 blobs_more f read left first (x ∷ xs) p =
-    more_if x.kept (ShardIndex x.index x.number first, left_text f left (files_read f read x)) first (kept_count xs) (λ n. pruned_blobs f read left n xs) (λ n. pruned_blobs f read left n (xs ++ p ∷ [])) (λ n. pruned_blobs f read left n (p ∷ []))
+    more_if x.kept (ShardIndex x.index x.number first, left_text f left (files_read f read x)) first (kept_count xs)
+    (λ n. pruned_blobs f read left n xs) (λ n. pruned_blobs f read left n (xs ++ p ∷ [])) (λ n. pruned_blobs f read left n (p ∷ []))
     (λ n. blobs_more f read left n xs p)
 
 if_both : (a b : Bool) (n : ℕ) → (if a then suc (if b then suc n else n) else (if b then suc n else n)) ≡ (if b then suc (if a then suc n else n) else (if a then suc n else n))
@@ -262,8 +264,8 @@ can_commit s t change index number id text out unsettled unlisted is own unnoted
 }
 
 -- so it is of the ticket that has noted those before it
-index_at : (s : Start) (old : Ticket) (held : List HeldShard) (items shards : List CodePruned) (k first id : ℕ) (root : RootData) (left : List ℕ) (wrote : List (BlobName × Bytes)) (free : IsUnwritten s old held (map pruned_of shards) first root) → items ≡ shards → k < length items
-    → left ≡ left_uuids free.uuids (uuids_of old.root) → id ≡ first + kept_count (map pruned_of (take k items)) → Has (map pruned_of shards) (pruned_of (get_or items k no_shard))
+index_at : (s : Start) (old : Ticket) (held : List HeldShard) (items shards : List CodePruned) (k first id : ℕ) (root : RootData) (left : List ℕ) (wrote : List (BlobName × Bytes)) (free : IsUnwritten s old held (map pruned_of shards) first root)
+    → items ≡ shards → k < length items → left ≡ left_uuids free.uuids (uuids_of old.root) → id ≡ first + kept_count (map pruned_of (take k items)) → Has (map pruned_of shards) (pruned_of (get_or items k no_shard))
     → IsIndexOf s (record old { noted = noted_with (pruned_blobs (formats_of s) old.read left first (map pruned_of (take k items))) old.noted; wrote = wrote }) held left (pruned_of (get_or items k no_shard)) id
 index_at s old held items shards k first id root left wrote free same less left_is id_is there =
     let f = formats_of s in
@@ -283,7 +285,8 @@ index_at s old held items shards k first id root left wrote free same less left_
       files = some.0;
       is_held = some.1;
       told = λ tells. ap (λ (blobs : List (BlobName × Bytes)). files_read f blobs p) (d.told tells) ∙ sym of_p ∙ some.1;
-      may = λ kept. can_commit s mid change p.index p.number id (left_text f left (files_read f old.read p)) free.out free.unsettled (record { listed = free.unlisted.listed; whole = free.unlisted.whole }) (plan_is s old held (map pruned_of shards) first root free)
+      may = λ kept. can_commit s mid change p.index p.number id (left_text f left (files_read f old.read p)) free.out free.unsettled
+          (record { listed = free.unlisted.listed; whole = free.unlisted.whole }) (plan_is s old held (map pruned_of shards) first root free)
           (own_there f old.read left (left_uuids free.uuids (uuids_of old.root)) items shards k first id left_is same id_is less kept) unnoted;
       new = λ kept. unnoted;
     }

@@ -79,7 +79,8 @@ halts_stops clean s log who (steps.Refused refusals.DepotFault) h = absurd h
 halts_stops clean s log who refusal h = h
 
 -- the record swap of the settle failed; the ticket may have settled
-pub settle_stops : (clean : Bool) (s : Start) (old new : List Moment) (who : ℕ) (refusal : StepRefusal) → is_fault refusal ≡ true → LeftBy {X = Unit {0}} (IsSettled (ticket_of s old who)) (Err refusal) (ticket_of s old who) (ticket_of s new who)
+pub settle_stops : (clean : Bool) (s : Start) (old new : List Moment) (who : ℕ) (refusal : StepRefusal) → is_fault refusal ≡ true
+    → LeftBy {X = Unit {0}} (IsSettled (ticket_of s old who)) (Err refusal) (ticket_of s old who) (ticket_of s new who)
     → Refusing s old new who (PruneStep SettlePruned) (told_refusal refusal) → IsLeftAt clean new who refusal (ticket_of s old who) (ticket_of s new who) × Stops clean s new who refusal
 settle_stops clean s old new who (steps.Refused refusals.DepotFault) fault left h = (inl left, inl (record { front = h.front; image = h.image; is = h.is }))
 settle_stops clean s old new who refusal fault left h = absurd (true≢false (sym fault))

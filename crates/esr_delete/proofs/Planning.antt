@@ -40,8 +40,8 @@ pub record AreFound (s : Start) (clean : Bool) (root : RootData) (uuids : List �
 
 pub found : (s : Start) (t : Ticket) (clean : Bool) (root : RootData) (uuids : List ℕ) (held : List HeldShard) (shards : List PrunedShard) → IsUnplanned t clean root uuids → (g : IsGathered s t uuids held) → IsOneEach root.indices
     → ((f : Formats) (blobs : List (BlobName × Bytes)) → IsHeld f clean root uuids blobs held → shards ≡ pruned_shards f clean root uuids blobs) → AreOfRoot root shards → AreToRead clean root uuids shards → AreHeldSome held shards
-    → ((known : Bytes → Bytes → ℕ → Bool) (told : Bytes → Bytes → ℕ → Option (List (Bytes × Bytes))) (blobs : List (BlobName × Bytes)) → IsHeld (formats known told) clean root uuids blobs held → AreWritable (formats known told) root uuids blobs shards)
-    → AreFound s t.clean t.root uuids g.blobs held shards
+    → ((known : Bytes → Bytes → ℕ → Bool) (told : Bytes → Bytes → ℕ → Option (List (Bytes × Bytes))) (blobs : List (BlobName × Bytes))
+    → IsHeld (formats known told) clean root uuids blobs held → AreWritable (formats known told) root uuids blobs shards) → AreFound s t.clean t.root uuids g.blobs held shards
 found s t clean root uuids held shards free g one exact of_root each some writable =
     let held_is : IsHeld (formats_of s) clean root uuids g.blobs held =
     is_held (formats_of s) clean root uuids g.blobs held one (subst (λ (r : RootData). HoldsRead (formats_of s) r g.blobs held) (sym free.root_is) g.are_held) in

@@ -219,7 +219,18 @@ module _ (s : Start) (t0 t1 t2 m t3 : Ticket) (clean : Bool) (given root : RootD
         is =
             put_as
             ∙ ap (λ (t : Ticket). record t { noted = Root n ∷ noted_with notes.change.own t.noted; wrote = wrote; raised = Some n; tried_latest = true; listed = ready.listed; whole = ready.whole }) planned_as
-            ∙ ap (λ (c : Swap). record t0 { work = Deleting uuids (Some plan); first = first; drawn = kept_count shards; noted = Root n ∷ noted_with c.own t0.noted; wrote = wrote; read = read.read; raised = Some n; tried_latest = true; listed = ready.listed; whole = ready.whole })
+            ∙ ap (λ (c : Swap). record t0 {
+              work = Deleting uuids (Some plan);
+              first = first;
+              drawn = kept_count shards;
+              noted = Root n ∷ noted_with c.own t0.noted;
+              wrote = wrote;
+              read = read.read;
+              raised = Some n;
+              tried_latest = true;
+              listed = ready.listed;
+              whole = ready.whole;
+            })
             change_is;
       }
 
@@ -289,7 +300,8 @@ module _ (s : Start) (t new : Ticket) (held : List HeldShard) (shards : List Pru
   }
 
 -- a delete lists nothing
-module _ (s : Start) (t new : Ticket) (held : List HeldShard) (shards : List PrunedShard) (first : ℕ) (root : RootData) (n : ℕ) (may : IsIndexed s t held shards first root) (rooted : IsRooted (formats_of s) t new root n) (deletes : t.clean ≡ false) where
+module _ (s : Start) (t new : Ticket) (held : List HeldShard) (shards : List PrunedShard) (first : ℕ) (root : RootData) (n : ℕ)
+    (may : IsIndexed s t held shards first root) (rooted : IsRooted (formats_of s) t new root n) (deletes : t.clean ≡ false) where
   -- what is held of the shards that are gone was read of them
   gone_held : AreHeld (formats_of s) may.draft.blobs held (gone_shards root t.root.indices)
   gone_held p gone =

@@ -111,7 +111,7 @@ below Less is = refl
 below Equal is = absurd is
 below Greater is = absurd is
 
-tied : (o : Ordering) → is_eq o ≡ true → o ≡ Equal
+pub tied : (o : Ordering) → is_eq o ≡ true → o ≡ Equal
 tied Less is = absurd cc
 tied Equal is = refl
 tied Greater is = absurd cc

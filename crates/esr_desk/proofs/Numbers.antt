@@ -151,9 +151,11 @@ next_restore w o r s (Some z) is = refl
 
 next_given : (f : Formats) (w : World) (o : ℕ) (unit : Given) (found : Option Op) → found ≡ fin.get w.ops o → Gives f w o unit → (taken_by f w o unit found).next_ticket ≡ suc w.next_ticket
 next_given f w o (GivenShard index number base) None is g = absurd (none_some (is ∙ g.ready.op_there))
-next_given f w o (GivenShard index number base) (Some op) is g = ap (λ (p : Op). (taken_shard w o p base (shard_of p.shards index number)).next_ticket) (some_same (is ∙ g.ready.op_there)) ∙ next_shard w o g.op base g.s (shard_of g.op.shards index number) g.found
+next_given f w o (GivenShard index number base) (Some op) is g =
+    ap (λ (p : Op). (taken_shard w o p base (shard_of p.shards index number)).next_ticket) (some_same (is ∙ g.ready.op_there)) ∙ next_shard w o g.op base g.s (shard_of g.op.shards index number) g.found
 next_given f w o (GivenClone index number source base) None is g = absurd (none_some (is ∙ g.ready.op_there))
-next_given f w o (GivenClone index number source base) (Some op) is g = ap (λ (p : Op). (taken_shard w o p base (shard_of p.shards index number)).next_ticket) (some_same (is ∙ g.ready.op_there)) ∙ next_shard w o g.op base g.s (shard_of g.op.shards index number) g.found
+next_given f w o (GivenClone index number source base) (Some op) is g =
+    ap (λ (p : Op). (taken_shard w o p base (shard_of p.shards index number)).next_ticket) (some_same (is ∙ g.ready.op_there)) ∙ next_shard w o g.op base g.s (shard_of g.op.shards index number) g.found
 next_given f w o (GivenFinalize info results) None is g = absurd (none_some (is ∙ g.ready.op_there))
 next_given f w o (GivenFinalize info results) (Some op) is g = refl
 next_given f w o GivenDrop None is g = refl
@@ -181,7 +183,8 @@ given_below law takes f size (x ∷ log) w m ticket op unit n legal (inl same) i
     let number : ticket ≡ w.next_ticket = gift.number in
     let next : (after f w x).next_ticket ≡ suc w.next_ticket = ap (λ (y : Moment). (after f w y).next_ticket) same ∙ next_after f w m ticket op unit gift is in
     let then_is = numbered_after 1 law f w x n in
-    let more : (after f w x).next_ticket ≤ (world_from f (after f w x) log).next_ticket = (numbered_from (after f w x).next_ticket law f log (after f w x) (record { next = omega arith; tickets = then_is.tickets; readers = then_is.readers })).next in
+    let more : (after f w x).next_ticket ≤ (world_from f (after f w x) log).next_ticket =
+    (numbered_from (after f w x).next_ticket law f log (after f w x) (record { next = omega arith; tickets = then_is.tickets; readers = then_is.readers })).next in
     omega (arith, number, next, more)
 given_below law takes f size (x ∷ log) w m ticket op unit n legal (inr has) is = given_below law takes f size log (after f w x) m ticket op unit (numbered_after 1 law f w x n) legal.1 has is
 

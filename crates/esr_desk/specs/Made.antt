@@ -51,7 +51,7 @@ counted_made reply counted place is = cc
 
 -- ---- worlds
 
-world_more : (f : Formats) (w : World) (old more : List Moment) → world_from f w (old ++ more) ≡ world_from f (world_from f w old) more
+pub world_more : (f : Formats) (w : World) (old more : List Moment) → world_from f w (old ++ more) ≡ world_from f (world_from f w old) more
 world_more f w [] more = refl
 world_more f w (m ∷ old) more = world_more f (after f w m) old more
 

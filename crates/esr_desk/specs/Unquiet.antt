@@ -11,7 +11,7 @@ use Rattle.esr_desk.specs.Outcome.{Grounds, IsOfOp}
 use Rattle.esr_desk.specs.Last.{IsLast}
 use Rattle.esr_desk.specs.Evidence.{NeverFailed}
 
-has_here : (front : List Moment) (m : Moment) (back : List Moment) → Has (front ++ m ∷ back) m
+pub has_here : (front : List Moment) (m : Moment) (back : List Moment) → Has (front ++ m ∷ back) m
 has_here [] m back = inl refl
 has_here (x ∷ front) m back = inr (has_here front m back)
 

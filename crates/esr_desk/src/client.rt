@@ -20,7 +20,7 @@ ghost use Rattle.esr_desk.specs.Conditions.{Holds};
 ghost use Rattle.esr_desk.specs.Check.Conditions.{CanEndCheck};
 ghost use Rattle.esr_desk.specs.Verify.Conditions.{CanDrawTest, IsOwn, HoldsText, CanCommitTest, CanRemoveTests, CanEndVerification, HasTestedNone};
 
-use crate::{AcceptedRestore, Attempt, CloneAsk, Desk, Done, Look, Named, NewBlob};
+use crate::{AcceptedRestore, Attempt, CloneAsk, Desk, Look, Named, NewBlob};
 use esr_depot::Stage;
 use esr_names::{BlobName, Id, SnapName};
 use esr_ops::Command;
@@ -58,7 +58,7 @@ pub trait Client: Desk {
         ensures calls { Self.calls self.new ≡ called (Self.seen self.new) LookStep (λ l. Looked (map root_snap_of l.listing) (count_of l.safe)) result (Self.calls self.old) };
 
     /// The check has read all: so many snapshots, and so many blobs.
-    fn end_check(&mut self, alloc: Global, snapshots: u64, blobs: u64) -> Done
+    fn end_check(&mut self, alloc: Global, snapshots: u64, blobs: u64) -> Attempt
         requires alone { Self.start.alone ≡ true }
         requires may { CanEndCheck Self.start (Self.seen self.old) snapshots blobs }
         ensures step { Outcome Self.start (Self.seen self.old) (Self.seen self.new) 0 (ReadStep (CheckedAll snapshots blobs)) (λ _. HasEnded) result }
@@ -92,7 +92,7 @@ pub trait Client: Desk {
         ensures calls { Self.calls self.new ≡ called (Self.seen self.new) (ReadStep (BeginTest (name_of blob.name))) (λ stage. WasBegun) result (Self.calls self.old) };
 
     /// Adds the whole test blob, which holds the text of the id. One that is there is refused as `NameTaken`.
-    fn commit_test(&mut self, alloc: Global, name: BlobName, stage: Self::Stage) -> Done
+    fn commit_test(&mut self, alloc: Global, name: BlobName, stage: Self::Stage) -> Attempt
         requires alone { Self.start.alone ≡ true }
         requires named { Self.Stage.name stage ≡ name_kind.text (name_of name) }
         requires layout { IsName name }
@@ -106,7 +106,7 @@ pub trait Client: Desk {
         ensures calls { Self.calls self.new ≡ called (Self.seen self.new) (ReadStep (CommitTest (name_of name))) (λ _. WasDone) result (Self.calls self.old) };
 
     /// Takes the test blobs of these names away.
-    fn remove_tests(&mut self, alloc: Global, names: &Seq<BlobName>) -> Done
+    fn remove_tests(&mut self, alloc: Global, names: &Seq<BlobName>) -> Attempt
         requires alone { Self.start.alone ≡ true }
         requires layout { (name : BlobName) → Has names.now name → IsName name }
         requires may { CanRemoveTests (caller_of Self.start (Self.seen self.old)) (map name_of names.now) }
@@ -118,7 +118,7 @@ pub trait Client: Desk {
         ensures calls { Self.calls self.new ≡ called (Self.seen self.new) (ReadStep (RemoveTests (map name_of names.now))) (λ _. WasRemoved) result (Self.calls self.old) };
 
     /// The container was verified: each test blob was there, and was removed.
-    fn end_verification(&mut self, alloc: Global) -> Done
+    fn end_verification(&mut self, alloc: Global) -> Attempt
         requires alone { Self.start.alone ≡ true }
         requires may { CanEndVerification (caller_of Self.start (Self.seen self.old)) }
         ensures step { Outcome Self.start (Self.seen self.old) (Self.seen self.new) 0 (ReadStep VerifiedAll) (λ _. HasEnded) result }

@@ -41,12 +41,6 @@ use esr_seq::Seq;
 use esr_source::{Shard, Target};
 use std::alloc::Global;
 
-/// A step is made, or why it isn't.
-pub type Done = Attempt<()>;
-
-/// What a commit answers, or why it isn't made.
-pub type Put = Attempt<Commit>;
-
 /// The steps that work on a repository: a unit is taken, and its ticket steps until it ends. Each adds one entry to the history,
 /// or none where it answers `Memory` or `TurnsSpent`; nothing else of the caller's own changes then. A refusal leaves the
 /// repository as it was, but for what a failed call of the container may leave. Several may work on one repository, each by a
@@ -112,7 +106,7 @@ pub trait Desk {
         &mut self,
         alloc: Global,
         failure: Failure<Self::Stage, Self::Fetch, Self::Shard, Self::Target>,
-    ) -> Done
+    ) -> Attempt
         requires mine { IsMine failure.who.hand (calls self.old) failure.who.number }
         requires may { MayFail failure.who.hand start (seen self.old) failure.who.number }
         requires shown { IsShown failure.who.hand
@@ -153,7 +147,13 @@ pub trait Desk {
 
     /// Adds the whole blob. A blob of a finalization that is there already counts as committed; any other is refused as
     /// `NameTaken`.
-    fn commit(&mut self, alloc: Global, ticket: u64, name: BlobName, stage: Self::Stage) -> Put
+    fn commit(
+        &mut self,
+        alloc: Global,
+        ticket: u64,
+        name: BlobName,
+        stage: Self::Stage,
+    ) -> Attempt<Commit>
         requires mine { HasTaken (calls self.old) ticket }
         requires named { Self.Stage.name stage ≡ name_kind.text (name_of name) }
         requires layout { IsName name }
@@ -169,7 +169,7 @@ pub trait Desk {
 
     /// Puts `index.latest`, which tells the generation that the ticket raised. Nothing reads it, so a failure is no
     /// reason to stop.
-    fn latest(&mut self, alloc: Global, ticket: u64, name: BlobName, stage: Self::Stage) -> Done
+    fn latest(&mut self, alloc: Global, ticket: u64, name: BlobName, stage: Self::Stage) -> Attempt
         requires mine { HasTaken (calls self.old) ticket }
         requires named { Self.Stage.name stage ≡ name_kind.text (name_of name) }
         requires name { name_of name ≡ Latest }
@@ -193,7 +193,7 @@ pub trait Desk {
         ensures calls { calls self.new ≡ calls self.old };
 
     /// Makes the root that the ticket of a snapshot or a clone committed the safe one.
-    fn settle(&mut self, alloc: Global, ticket: u64, root: &RootData) -> Done
+    fn settle(&mut self, alloc: Global, ticket: u64, root: &RootData) -> Attempt
         requires mine { HasTaken (calls self.old) ticket }
         requires may { CanSettle start (ticket_of start (seen self.old) ticket) (root_of root.now) }
         requires unpruned { IsUnpruned (ticket_of start (seen self.old) ticket) }
@@ -234,7 +234,7 @@ pub trait Desk {
 
     /// Makes the root that the ticket of a delete or cleanup committed the safe one, and what it dooms may be removed. A delete
     /// leaves the list, a cleanup stays.
-    fn settle_delete(&mut self, alloc: Global, ticket: u64, root: &RootData) -> Done
+    fn settle_delete(&mut self, alloc: Global, ticket: u64, root: &RootData) -> Attempt
         requires mine { HasTaken (calls self.old) ticket }
         requires may { CanSettleDelete start (ticket_of start (seen self.old) ticket) (root_of root.now) }
         requires new { IsFresh start (seen self.old) ticket (PruneStep SettlePruned) }
@@ -246,7 +246,7 @@ pub trait Desk {
 
     /// Takes blobs that the ticket dooms away; those that are gone already are no failure. Where the container fails in it, they
     /// count as named, too.
-    fn remove(&mut self, alloc: Global, ticket: u64, names: &Seq<BlobName>) -> Done
+    fn remove(&mut self, alloc: Global, ticket: u64, names: &Seq<BlobName>) -> Attempt
         requires mine { HasTaken (calls self.old) ticket }
         requires layout { (name : BlobName) → Has names.now name → IsName name }
         requires may { CanRemove start (ticket_of start (seen self.old) ticket) (map name_of names.now) }
@@ -256,7 +256,7 @@ pub trait Desk {
         ensures calls { calls self.new ≡ calls self.old };
 
     /// A shard is done; its ticket ends.
-    fn end_shard(&mut self, alloc: Global, ticket: u64, outcome: &ShardResult) -> Done
+    fn end_shard(&mut self, alloc: Global, ticket: u64, outcome: &ShardResult) -> Attempt
         requires mine { HasTaken (calls self.old) ticket }
         requires may { CanEnd start (ticket_of start (seen self.old) ticket) (result_of outcome.now) }
         ensures step { Outcome start (seen self.old) (seen self.new) ticket (DoneStep (result_of outcome.now)) (λ _. HasEnded) result }
@@ -283,7 +283,7 @@ pub trait Desk {
         ensures calls { calls self.new ≡ calls self.old };
 
     /// A delete is over: its removals have named all that its plan dooms. Its ticket ends.
-    fn end_delete(&mut self, alloc: Global, ticket: u64) -> Done
+    fn end_delete(&mut self, alloc: Global, ticket: u64) -> Attempt
         requires mine { HasTaken (calls self.old) ticket }
         requires may { CanEndDelete start (seen self.old) ticket }
         ensures step { Outcome start (seen self.old) (seen self.new) ticket (PruneStep EndDelete) (λ _. HasEnded) result }
@@ -292,7 +292,7 @@ pub trait Desk {
         ensures calls { calls self.new ≡ calls self.old };
 
     /// An op that failed leaves the list; its ticket ends.
-    fn end_drop(&mut self, alloc: Global, ticket: u64) -> Done
+    fn end_drop(&mut self, alloc: Global, ticket: u64) -> Attempt
         requires mine { HasTaken (calls self.old) ticket }
         requires may { CanDrop (ticket_of start (seen self.old) ticket) }
         requires new { IsFresh start (seen self.old) ticket DroppedStep }
@@ -302,7 +302,7 @@ pub trait Desk {
         ensures calls { calls self.new ≡ calls self.old };
 
     /// A cleanup is over: its removals took all that it dooms away. Its op leaves the list; its ticket ends.
-    fn end_cleanup(&mut self, alloc: Global, ticket: u64) -> Done
+    fn end_cleanup(&mut self, alloc: Global, ticket: u64) -> Attempt
         requires mine { HasTaken (calls self.old) ticket }
         requires may { CanEndCleanup start (seen self.old) ticket }
         requires new { IsFresh start (seen self.old) ticket DroppedStep }
@@ -313,7 +313,7 @@ pub trait Desk {
 
     /// The unit of a snapshot or a clone that has settled ends, and so does any but a shard's once its term is over, as a step of
     /// its own was told.
-    fn finish(&mut self, alloc: Global, ticket: u64) -> Done
+    fn finish(&mut self, alloc: Global, ticket: u64) -> Attempt
         requires mine { HasTaken (calls self.old) ticket }
         requires may { CanFinish start (seen self.old) ticket }
         ensures step { Outcome start (seen self.old) (seen self.new) ticket FinishStep (λ _. HasEnded) result }

@@ -14,7 +14,7 @@ mod target;
 mod unit;
 
 pub use client::Client;
-pub use desk::{Desk, Done, Put};
+pub use desk::Desk;
 pub use entry::{
     Answer, BlobNames, CloneAsk, CloneOf, Entry, Given, History, Prune, Read, Step, Why,
 };

@@ -57,8 +57,8 @@ pub enum StepRefusal {
     Refused(EntryRefusal),
 }
 
-/// What a step answers, or why it isn't made.
-pub type Attempt<X> = Result<X, StepRefusal>;
+/// What a step answers, by default nothing, or why it isn't made.
+pub type Attempt<X = ()> = Result<X, StepRefusal>;
 
 impl From<AllocError> for StepRefusal {
     ghost from_gives = { λ _ e. e ≡ Memory };

@@ -1,15 +1,10 @@
 -- Names of the layout.
-use Rattle.std.proofs.Common.{◌≡◌, ◌<◌, ◌^◌, ℕ, List, [], ◌∷◌, ◌++◌, Option, Some, subst}
+use Rattle.std.proofs.Common.{◌≡◌, ◌<◌, ◌^◌, ℕ, Option, Some, subst}
 use Rattle.std.specs.Prelude.{IfSome}
-use Rattle.std.specs.List.{AllByRecursion}
 use Rattle.esr_names.specs.Layout.{IsName}
 use Rattle.esr_names.specs.declared.ids.Id.{Id}
 use Rattle.esr_names.specs.declared.blob.ShardId.{ShardId}
 use Rattle.esr_names.specs.declared.blob.BlobName.TheVariants.{Root, Snap, Meta, IndexMeta, ShardSnap, ShardIndex}
-
-pub all_push : {A : Type 0} (P : A → Type 0) (xs : List A) (x : A) → AllByRecursion P xs → P x → AllByRecursion P (xs ++ x ∷ [])
-all_push P [] x all one = (one, tt)
-all_push P (y ∷ xs) x all one = (all.0, all_push P xs x all.1 one)
 
 pub root_laid : (number : Option ℕ) (n : ℕ) → number ≡ Some n → IfSome number (λ m. m < 2 ^ 63) → IsName (Root n)
 unfolding IsName

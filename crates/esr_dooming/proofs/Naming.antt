@@ -21,15 +21,12 @@ use Rattle.esr_model.specs.Delete.{PrunedShard, names_uuid, uuids_of, lists_file
 use Rattle.esr_reach.specs.Held.{HeldShard, held_at}
 use Rattle.esr_reach.specs.Listing.{is_listed}
 use Rattle.esr_reach.specs.Names.{Pushed}
-use Rattle.esr_reach.specs.NamePieces.{pushed_none, pushed_one, pushed_as}
+use Rattle.esr_reach.specs.NamePieces.{pushed_none, pushed_one, pushed_as, pushed_more}
 use Rattle.esr_results.specs.declared.pruned.PrunedShard.{PrunedShard as CodePruned}
 use Rattle.esr_results.specs.Pruned.{pruned_of}
 use Rattle.esr_dooming.specs.Pieces.{is_one, has_left_file, root_piece, root_count, snap_piece, meta_piece, metas_piece, list_piece, file_piece, held_piece, files_piece, shard_piece, snaps_names, gone_names}
 use Rattle.esr_dooming.specs.Reading.{AreHeld}
 use Rattle.esr_dooming.proofs.Numbers.{one_names, of_ids, of_snaps}
-
-pub pushed_more : (first old new : List CodeName) (xs ys : List BlobName) → Pushed first old xs → Pushed old new ys → Pushed first new (xs ++ ys)
-pushed_more first old new xs ys before more = more ∙ ap (λ (l : List BlobName). l ++ ys) before ∙ append_assoc (map name_of first) xs ys
 
 -- ---- where a test holds
 

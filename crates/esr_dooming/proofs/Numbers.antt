@@ -1,14 +1,15 @@
 -- Sets of numbers tell what the lists do that they were made of.
-use Rattle.std.proofs.Common.{◌≡◌, ℕ, ◌+◌, ◌<◌, ◌==◌, ◌||◌, ◌&&◌, nat_lt, Bool, true, false, cond, List, [], ◌∷◌, ◌++◌, map, length, take, get_or, refl, sym, ap, ◌∙◌, subst, inl, inr, arith}
+use Rattle.std.proofs.Common.{◌≡◌, ℕ, ◌+◌, ◌<◌, ◌==◌, ◌||◌, ◌&&◌, Bool, true, false, cond, List, [], ◌∷◌, ◌++◌, map, length, take, get_or, refl, sym, ap, ◌∙◌, subst}
 use Rattle.std.specs.Prelude.{if◌then◌else◌}
 use Rattle.std.specs.List.{list_any}
-use Rattle.std.specs.Ordering.{nat_cmp, is_eq}
+use Rattle.std.specs.Ordering.{nat_cmp}
 use Rattle.std.specs.BTreeSet.{BTreeSet, contains, Updates}
-use Rattle.std.proofs.lemmas.Bool.{cases_Bool, ltb-true, eqb-true}
 use Rattle.std.proofs.lemmas.List.Folds.{list_any-append}
+use Rattle.std.proofs.Math.Bool.{or-false}
 use Rattle.esr_model.specs.Loops.{next, item_is}
 use Rattle.esr_names.specs.declared.ids.Id.{Id}
 use Rattle.esr_shardidx.specs.declared.index.SnapList.{SnapList as CodeList}
+use Rattle.esr_shardidx.specs.FileOrder.{is_eq-nat_cmp}
 use Rattle.esr_formats.specs.Ids.{number_of}
 use Rattle.esr_formats.specs.Shards.{snap_list_of}
 use Rattle.esr_model.specs.Values.{RootSnap, SnapList}
@@ -42,25 +43,6 @@ any_map p f (x ∷ xs) = ap (λ (b : Bool). p (f x) || b) (any_map p f xs)
 
 -- ---- a set that grows
 
-apart : (a b : ℕ) → a < b → (a == b) ≡ false
-apart a b less = elim (cases_Bool (a == b)) [
-  | inl same ↦ let e : a ≡ b = eqb-true a b same in absurd (omega (arith, e, less))
-  | inr other ↦ other
-]
-
-is_eq-nat_cmp : (a b : ℕ) → is_eq (nat_cmp a b) ≡ (a == b)
-is_eq-nat_cmp a b = elim (cases_Bool (nat_lt a b)) [
-  | inl less ↦ let other : (a == b) ≡ false = apart a b (ltb-true a b less) in rw (less, other) refl
-  | inr least ↦ elim (cases_Bool (a == b)) [
-    | inl same ↦ rw (least, same) refl
-    | inr other ↦ rw (least, other) refl
-  ]
-]
-
-or_none : (a : Bool) → (a || false) ≡ a
-or_none true = refl
-or_none false = refl
-
 swapped : (a o b : Bool) → cond a true (o || b) ≡ (o || (b || (a || false)))
 swapped true true b = refl
 swapped true false true = refl
@@ -74,7 +56,7 @@ abbrev pub IsAlso : BTreeSet ℕ → BTreeSet ℕ → List ℕ → Type 0
 IsAlso old set us = (q : ℕ) → contains nat_cmp set q ≡ (contains nat_cmp old q || is_one us q)
 
 pub also_none : (s : BTreeSet ℕ) → IsAlso s s []
-also_none s q = sym (or_none (contains nat_cmp s q))
+also_none s q = sym (or-false (contains nat_cmp s q))
 
 also_push : (old s n : BTreeSet ℕ) (us : List ℕ) (u : ℕ) → IsAlso old s us → Updates nat_cmp s n u true → IsAlso old n (us ++ u ∷ [])
 also_push old s n us u has adds q =
@@ -106,7 +88,7 @@ files_none s left none q = rw none refl
 files_push : (left : ℕ → Bool) (ls : List SnapList) (l : SnapList) (q : ℕ) → has_left_file left (ls ++ l ∷ []) q ≡ (has_left_file left ls q || (left l.uuid && is_one l.files q))
 files_push left ls l q =
     let test : SnapList → Bool = λ (x : SnapList). left x.uuid && is_one x.files q in
-    list_any-append test ls (l ∷ []) ∙ ap (λ (b : Bool). list_any test ls || b) (or_none (test l))
+    list_any-append test ls (l ∷ []) ∙ ap (λ (b : Bool). list_any test ls || b) (or-false (test l))
 
 pub files_more : (left : ℕ → Bool) (xs : List CodeList) (i : ℕ) (x : CodeList) (s n : BTreeSet ℕ) → i < length xs → x ≡ get_or xs i x → HasFiles s left (map snap_list_of (take i xs))
     → ((q : ℕ) → contains nat_cmp n q ≡ (contains nat_cmp s q || (left x.uuid.number && is_one (map number_of x.files) q))) → HasFiles n left (map snap_list_of (take (i + 1) xs))
@@ -116,4 +98,4 @@ files_more left xs i x s n less is has adds q =
 
 -- a list that isn't left adds nothing
 pub no_more : (b o : Bool) (other : Bool) → b ≡ false → o ≡ (o || (b && other))
-no_more b o other none = sym (or_none o) ∙ ap (λ (a : Bool). o || (a && other)) (sym none)
+no_more b o other none = sym (or-false o) ∙ ap (λ (a : Bool). o || (a && other)) (sym none)

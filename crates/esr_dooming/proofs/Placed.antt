@@ -2,13 +2,13 @@
 use Rattle.std.proofs.Common.{◌≡◌, ◌⊎◌, ℕ, zero, suc, ◌+◌, ◌<◌, ◌≤◌, Bool, true, false, List, [], ◌∷◌, ◌++◌, map, flat_map, length, Option, Some, None, option_map, refl, sym, ap, ◌∙◌, subst, inl, inr, arith}
 use Rattle.std.specs.Prelude.{if◌then◌else◌}
 use Rattle.std.proofs.lemmas.List.{length-map}
-use Rattle.esr_model.specs.Lists.{Has-left, Has-right, Has-either, Has-mapped, Has-map}
+use Rattle.esr_model.specs.Lists.{Has-left, Has-right, Has-either, Has-mapped, Has-map, all_has}
 use Rattle.esr_names.specs.declared.ids.Id.{Id}
 use Rattle.esr_root.specs.Root.{Root}
 use Rattle.esr_root.specs.Indices.{AreIndices, IsIndex}
 use Rattle.esr_root.specs.declared.indices.RootIndex.{RootIndex as CodeIndex}
 use Rattle.esr_shardidx.specs.Indices.{IndexValue, IsShardIndex, survivors_of}
-use Rattle.esr_shardidx.specs.KeptLists.{survivors_of-is}
+use Rattle.esr_shardidx.specs.IndexLists.{survivors_of-is}
 use Rattle.esr_formats.specs.Ids.{number_of, id_of}
 use Rattle.esr_formats.specs.Formats.{formats}
 use Rattle.esr_formats.specs.Roots.{root_of, root_index_of}
@@ -23,7 +23,7 @@ use Rattle.esr_core.specs.Laws.DeleteRoots.{AreApart, one_found}
 use Rattle.esr_core.specs.Laws.DoomNames.{of_indices}
 use Rattle.esr_reach.specs.Held.{HeldShard, held_at, AreWhole}
 use Rattle.esr_reach.specs.Names.{AreOnce}
-use Rattle.esr_reach.specs.Members.{has_if, in_then, has_flat, in_flat, all_has}
+use Rattle.esr_reach.specs.Members.{has_if, in_then, has_flat, in_flat}
 use Rattle.esr_reach.specs.OnceEach.{indices_once, one_each}
 use Rattle.esr_results.specs.declared.pruned.PrunedShard.{PrunedShard as CodePruned}
 use Rattle.esr_results.specs.Pruned.{pruned_of}
@@ -313,7 +313,8 @@ bare_bytes : (blobs : List (BlobName × Bytes)) (p : PrunedShard) → index_byte
 bare_bytes [] p = refl
 bare_bytes (b ∷ blobs) p = ap (λ (o : Option Bytes). if is_index p.index p.number p.base b.0 then Some b.1 else o) (bare_bytes blobs p)
 
-pub writable : (known : Bytes → Bytes → ℕ → Bool) (told : Bytes → Bytes → ℕ → Option (List (Bytes × Bytes))) (clean : Bool) (root : RootData) (uuids : List ℕ) (blobs : List (BlobName × Bytes)) (held : List HeldShard) (shards : List PrunedShard)
+pub writable : (known : Bytes → Bytes → ℕ → Bool) (told : Bytes → Bytes → ℕ → Option (List (Bytes × Bytes)))
+    (clean : Bool) (root : RootData) (uuids : List ℕ) (blobs : List (BlobName × Bytes)) (held : List HeldShard) (shards : List PrunedShard)
     → AreWhole held → AreToRead clean root uuids shards → IsHeld (formats known told) clean root uuids blobs held → AreWritable (formats known told) root uuids blobs shards
 unfolding formats
 writable known told clean root uuids blobs held shards whole are is_held p was m read =

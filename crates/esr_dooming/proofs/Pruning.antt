@@ -1,8 +1,9 @@
 -- The shards that a delete prunes by what is held are those that it prunes by what was read.
-use Rattle.std.proofs.Common.{◌≡◌, ℕ, suc, ◌+◌, ◌==◌, ◌&&◌, ◌||◌, Bool, true, false, List, [], ◌∷◌, ◌++◌, map, flat_map, Option, Some, None, refl, sym, ap, ◌∙◌, subst, inl, inr, arith, append_assoc}
+use Rattle.std.proofs.Common.{◌≡◌, ℕ, suc, ◌+◌, ◌==◌, ◌&&◌, ◌||◌, Bool, true, false, List, [], ◌∷◌, ◌++◌, map, flat_map, Option, Some, None, refl, sym, ap, ◌∙◌, subst, inl, inr, arith, append_assoc, true≢false}
 use Rattle.std.specs.Prelude.{not, if◌then◌else◌}
 use Rattle.std.specs.List.{list_any}
 use Rattle.std.proofs.lemmas.Bool.{cases_Bool, eqb-true}
+use Rattle.std.proofs.Math.Bool.{and-true, and-false}
 use Rattle.esr_names.specs.declared.ids.Id.{Id}
 use Rattle.esr_root.specs.Root.{Root}
 use Rattle.esr_root.specs.declared.snaps.RootSnap.{RootSnap as CodeSnap}
@@ -24,17 +25,6 @@ use Rattle.esr_dooming.proofs.Numbers.{of_ids, of_snaps}
 
 -- ---- what is left of some uuids
 
-clash : true ≡ false → ⊥
-clash e = cc
-
-and_false : (b : Bool) → (b && false) ≡ false
-and_false true = refl
-and_false false = refl
-
-and_true : (b : Bool) → (b && true) ≡ b
-and_true true = refl
-and_true false = refl
-
 leave_one : (v u : ℕ) (ls : List ℕ) (a b : Bool) → (a ≡ false → b ≡ true → ⊥) → (v == u) ≡ b → names_uuid ls u ≡ false → names_uuid (if a then ls else v ∷ ls) u ≡ false
 leave_one v u ls true b apart same none = none
 leave_one v u ls false true apart same none = absurd (apart refl refl)
@@ -44,7 +34,7 @@ leave_one v u ls false false apart same none = ap (λ (c : Bool). if c then true
 named_leaves : (uuids us : List ℕ) (u : ℕ) → names_uuid uuids u ≡ true → names_uuid (left_uuids uuids us) u ≡ false
 named_leaves uuids [] u named = refl
 named_leaves uuids (v ∷ us) u named =
-    leave_one v u (left_uuids uuids us) (names_uuid uuids v) (v == u) (λ other same. clash (sym named ∙ ap (names_uuid uuids) (sym (eqb-true v u same)) ∙ other)) refl (named_leaves uuids us u named)
+    leave_one v u (left_uuids uuids us) (names_uuid uuids v) (v == u) (λ other same. true≢false (sym named ∙ ap (names_uuid uuids) (sym (eqb-true v u same)) ∙ other)) refl (named_leaves uuids us u named)
 
 stay_one : (v u : ℕ) (ls us : List ℕ) (a b : Bool) → (a ≡ true → b ≡ true → ⊥) → (v == u) ≡ b → names_uuid ls u ≡ names_uuid us u → names_uuid (if a then ls else v ∷ ls) u ≡ names_uuid (v ∷ us) u
 stay_one v u ls us true true apart same alike = absurd (apart refl refl)
@@ -55,12 +45,12 @@ stay_one v u ls us false b apart same alike = ap (λ (c : Bool). if v == u then 
 other_stays : (uuids us : List ℕ) (u : ℕ) → names_uuid uuids u ≡ false → names_uuid (left_uuids uuids us) u ≡ names_uuid us u
 other_stays uuids [] u other = refl
 other_stays uuids (v ∷ us) u other =
-    stay_one v u (left_uuids uuids us) us (names_uuid uuids v) (v == u) (λ named same. clash (sym named ∙ ap (names_uuid uuids) (eqb-true v u same) ∙ other)) refl (other_stays uuids us u other)
+    stay_one v u (left_uuids uuids us) us (names_uuid uuids v) (v == u) (λ named same. true≢false (sym named ∙ ap (names_uuid uuids) (eqb-true v u same) ∙ other)) refl (other_stays uuids us u other)
 
 left_names : (uuids us : List ℕ) (u : ℕ) → names_uuid (left_uuids uuids us) u ≡ (names_uuid us u && not (names_uuid uuids u))
 left_names uuids us u = elim (cases_Bool (names_uuid uuids u)) [
-  | inl named ↦ named_leaves uuids us u named ∙ sym (ap (λ (a : Bool). names_uuid us u && not a) named ∙ and_false (names_uuid us u))
-  | inr other ↦ other_stays uuids us u other ∙ sym (ap (λ (a : Bool). names_uuid us u && not a) other ∙ and_true (names_uuid us u))
+  | inl named ↦ named_leaves uuids us u named ∙ sym (ap (λ (a : Bool). names_uuid us u && not a) named ∙ and-false (names_uuid us u))
+  | inr other ↦ other_stays uuids us u other ∙ sym (ap (λ (a : Bool). names_uuid us u && not a) other ∙ and-true (names_uuid us u))
 ]
 
 none_one : (a : Bool) (u : ℕ) (ls : List ℕ) (r : Bool) → has_none ls ≡ not r → has_none (if a then ls else u ∷ ls) ≡ not (not a || r)
@@ -105,7 +95,8 @@ read_same clean uuids listed true index number base None more = refl
 read_same clean uuids listed false index number base None more = refl
 read_same clean uuids listed true index number base (Some was) more = refl
 read_same false uuids listed false index number base (Some was) more =
-    victim_one (list_any (is_victim false uuids listed) was.snapshots) (list_any (is_left (left_uuids uuids listed)) was.snapshots) (has_left (names_uuid uuids) (names_uuid listed) was.snapshots) (kept_same uuids listed was.snapshots) index number base more
+    victim_one (list_any (is_victim false uuids listed) was.snapshots) (list_any (is_left (left_uuids uuids listed)) was.snapshots)
+    (has_left (names_uuid uuids) (names_uuid listed) was.snapshots) (kept_same uuids listed was.snapshots) index number base more
 read_same true uuids listed false index number base (Some was) more =
     let left : Bool = list_any (is_left (left_uuids uuids listed)) was.snapshots in
     ap (λ (b : Bool). if b then one_shard index number base left ∷ more else more) (unlisted_same listed was.snapshots)
@@ -153,7 +144,8 @@ module _ (f : Formats) (blobs : List (BlobName × Bytes)) (clean : Bool) (uuids 
 
 -- ---- of the root
 
-pub pruned_are : (f : Formats) (blobs : List (BlobName × Bytes)) (clean : Bool) (root : Root) (uuids ids : List Id) (snaps : List CodeSnap) (indices : List CodeIndex) (held : List HeldShard) (named listed : ℕ → Bool) (start end : List CodePruned)
+pub pruned_are : (f : Formats) (blobs : List (BlobName × Bytes)) (clean : Bool) (root : Root) (uuids ids : List Id)
+    (snaps : List CodeSnap) (indices : List CodeIndex) (held : List HeldShard) (named listed : ℕ → Bool) (start end : List CodePruned)
     → start ≡ [] → ids ≡ uuids → snaps ≡ root.snapshots → indices ≡ root.indices → named ≡ is_one (map number_of ids) → listed ≡ is_listed (map root_snap_of snaps)
     → Added start end (flat_map (index_piece clean named listed held) (map root_index_of indices)) → IsHeld f clean (root_of root) (map number_of uuids) blobs held
     → map pruned_of end ≡ pruned_shards f clean (root_of root) (map number_of uuids) blobs

@@ -8,28 +8,23 @@ use Rattle.esr_core.specs.After.{is_latest}
 use Rattle.esr_model.specs.Names.{BlobName}
 use Rattle.esr_model.specs.Values.{Has}
 use Rattle.esr_formats.specs.Names.{name_of}
-use Rattle.esr_reach.specs.Names.{Pushed, coded}
+use Rattle.esr_formats.specs.ReadBack.{name_back}
+use Rattle.esr_reach.specs.Names.{Pushed}
+use Rattle.esr_reach.specs.NamePieces.{pushed_one}
 use Rattle.esr_dooming.specs.Unreached.{is_spared, name_piece, is_root, rest_piece}
 
 -- ---- one name
 
 pub spared_by : (has : CodeName → Bool) (a : CodeName) → (is_latest (name_of a) || has a) ≡ is_spared has (name_of a)
-spared_by has a = ap (λ (b : CodeName). is_latest (name_of a) || has b) (sym (coded a))
+spared_by has a = ap (λ (b : CodeName). is_latest (name_of a) || has b) (sym (name_back a))
 
 -- it is spared
 pub not_pushed : (names : List CodeName) (has : CodeName → Bool) (name : BlobName) → is_spared has name ≡ true → Pushed names names (name_piece has (Some name))
 not_pushed names has name spared = sym (append-nil (map name_of names)) ∙ ap (λ (b : Bool). map name_of names ++ (if b then [] else name ∷ [])) (sym spared)
 
-pushed_last : (old new : List CodeName) (a : CodeName) → new ≡ old ++ a ∷ [] → Pushed old new (name_of a ∷ [])
-pushed_last old new a is = ap (map name_of) is ∙ map-append name_of old (a ∷ [])
-
 -- it isn't
 pub name_pushed : (old new : List CodeName) (has : CodeName → Bool) (a : CodeName) → is_spared has (name_of a) ≡ false → new ≡ old ++ a ∷ [] → Pushed old new (name_piece has (Some (name_of a)))
-name_pushed old new has a spared is = pushed_last old new a is ∙ ap (λ (b : Bool). map name_of old ++ (if b then [] else name_of a ∷ [])) (sym spared)
-
--- the blob has no name of the layout
-pub none_pushed : (names : List CodeName) → Pushed names names []
-none_pushed names = sym (append-nil (map name_of names))
+name_pushed old new has a spared is = pushed_one old new a is ∙ ap (λ (b : Bool). map name_of old ++ (if b then [] else name_of a ∷ [])) (sym spared)
 
 -- ---- a page
 
@@ -61,7 +56,7 @@ pub rest_pushed : (n : ℕ) (items : List CodeName) (i : ℕ) (x : CodeName) (ol
     → map name_of old ≡ flat_map (rest_piece n) (map name_of (take i items)) → new ≡ old ++ x ∷ []
     → map name_of new ≡ flat_map (rest_piece n) (map name_of (take (i + 1) items))
 rest_pushed n items i x old new less is other before pushed =
-    rest_next n items i x old new less is before (pushed_last old new x pushed ∙ ap (λ (b : Bool). map name_of old ++ (if b then [] else name_of x ∷ [])) (sym other))
+    rest_next n items i x old new less is before (pushed_one old new x pushed ∙ ap (λ (b : Bool). map name_of old ++ (if b then [] else name_of x ∷ [])) (sym other))
 
 pub rest_passed : (n : ℕ) (items : List CodeName) (i : ℕ) (x : CodeName) (old new : List CodeName) → i < length items → x ≡ get_or items i x → is_root n (name_of x) ≡ true
     → map name_of old ≡ flat_map (rest_piece n) (map name_of (take i items)) → new ≡ old

@@ -6,6 +6,7 @@ use Rattle.esr_core.specs.Entry.{Step, TakeStep, ElectStep, Entry, Moment}
 use Rattle.esr_core.specs.Ready.{AnyReady}
 use Rattle.esr_turns.specs.Passes.{LockId}
 use Rattle.esr_turns.specs.Places.{places_from}
+use Rattle.esr_model.specs.Lists.{Has-left, Has-right}
 use Rattle.esr_desk.specs.declared.refusal.StepRefusal.{StepRefusal}
 use Rattle.esr_desk.specs.declared.refusal.StepRefusal.TheVariants as steps
 use Rattle.esr_desk.specs.Start.{Start, Legal, world_of, ticket_of}
@@ -23,7 +24,7 @@ use Rattle.esr_drive.specs.Elections.{IsOfWait, AllOfWait, WaitsOnly, election, 
 use Rattle.esr_handle.specs.Owned.{calls_in}
 use Rattle.esr_handle.specs.Turned.{Seen}
 use Rattle.esr_drive.specs.Worked.{weigh, election_call, IsCrewCall, Answer, AreElected, AreWorked, OutWasGiven, ReaderWasGiven, IsBack, HasSat, HasWaited}
-use Rattle.esr_drive.proofs.Weights.{weigh_both, has_front, has_back, calls_whole}
+use Rattle.esr_drive.proofs.Weights.{weigh_both, calls_whole}
 use Rattle.esr_drive.proofs.Working.{ok_by, err_by}
 
 -- ---- of the entries of who 0
@@ -36,8 +37,8 @@ of_wait place m (suc k) is only = inl (λ (none : m.entry.who ≡ 0). let e : su
 all_of_wait : (place : ℕ) (more : List Moment) → ((c : Call) → Has (calls_at place more) c → IsCrewCall c) → AllOfWait more
 all_of_wait place [] only = tt
 all_of_wait place (m ∷ more) only = (
-  of_wait place m m.entry.who refl (λ c has. only c (has_front (call_at place m.entry) (calls_at (place + 1) more) c has)),
-  all_of_wait (place + 1) more (λ c has. only c (has_back (call_at place m.entry) (calls_at (place + 1) more) c has)),
+  of_wait place m m.entry.who refl (λ c has. only c (Has-left (call_at place m.entry) (calls_at (place + 1) more) c has)),
+  all_of_wait (place + 1) more (λ c has. only c (Has-right (call_at place m.entry) (calls_at (place + 1) more) c has)),
 )
 
 -- those of a ticket find nothing idle, and elect nobody
@@ -48,7 +49,8 @@ idle_one place e (suc k) is = sym (ap (λ (n : ℕ). idle_take n e.step e.reply)
 idle_whole : (place : ℕ) (more : List Moment) → weigh idle_call (calls_at place more) ≡ idle_takes more
 idle_whole place [] = refl
 idle_whole place (m ∷ more) =
-    let both : weigh idle_call (call_at place m.entry ++ calls_at (place + 1) more) ≡ weigh idle_call (call_at place m.entry) + weigh idle_call (calls_at (place + 1) more) = weigh_both idle_call (call_at place m.entry) (calls_at (place + 1) more) in
+    let both : weigh idle_call (call_at place m.entry ++ calls_at (place + 1) more) ≡ weigh idle_call (call_at place m.entry) + weigh idle_call (calls_at (place + 1) more) =
+    weigh_both idle_call (call_at place m.entry) (calls_at (place + 1) more) in
     let one : weigh idle_call (call_at place m.entry) ≡ idle_take m.entry.who m.entry.step m.entry.reply = idle_one place m.entry m.entry.who refl in
     let rest : weigh idle_call (calls_at (place + 1) more) ≡ idle_takes more = idle_whole (place + 1) more in
     omega (arith, both, one, rest)
@@ -60,7 +62,8 @@ election_one place e (suc k) is = sym (ap (λ (n : ℕ). election n e.step) is)
 election_whole : (place : ℕ) (more : List Moment) → weigh election_call (calls_at place more) ≡ elections more
 election_whole place [] = refl
 election_whole place (m ∷ more) =
-    let both : weigh election_call (call_at place m.entry ++ calls_at (place + 1) more) ≡ weigh election_call (call_at place m.entry) + weigh election_call (calls_at (place + 1) more) = weigh_both election_call (call_at place m.entry) (calls_at (place + 1) more) in
+    let both : weigh election_call (call_at place m.entry ++ calls_at (place + 1) more) ≡ weigh election_call (call_at place m.entry) + weigh election_call (calls_at (place + 1) more) =
+    weigh_both election_call (call_at place m.entry) (calls_at (place + 1) more) in
     let one : weigh election_call (call_at place m.entry) ≡ election m.entry.who m.entry.step = election_one place m.entry m.entry.who refl in
     let rest : weigh election_call (calls_at (place + 1) more) ≡ elections more = election_whole (place + 1) more in
     omega (arith, both, one, rest)
@@ -74,10 +77,10 @@ in_calls : (place : ℕ) (more : List Moment) (m : Moment) → Has more m → m.
 in_calls place [] m has client = absurd has
 in_calls place (x ∷ more) m (inl same) client = (
   record { place = place; entry = x.entry },
-  has_front (call_at place x.entry) (calls_at (place + 1) more) (record { place = place; entry = x.entry }) (of_client place x.entry x.entry.who (ap (λ (y : Moment). y.entry.who) same ∙ client)),
+  Has-left (call_at place x.entry) (calls_at (place + 1) more) (record { place = place; entry = x.entry }) (of_client place x.entry x.entry.who (ap (λ (y : Moment). y.entry.who) same ∙ client)),
   ap (λ (y : Moment). y.entry) same,
 )
-in_calls place (x ∷ more) m (inr has) client = let rest = in_calls (place + 1) more m has client in (rest.0, has_back (call_at place x.entry) (calls_at (place + 1) more) rest.0 rest.1, rest.2)
+in_calls place (x ∷ more) m (inr has) client = let rest = in_calls (place + 1) more m has client in (rest.0, Has-right (call_at place x.entry) (calls_at (place + 1) more) rest.0 rest.1, rest.2)
 
 -- ---- nothing was asked
 

@@ -4,6 +4,7 @@ use Rattle.std.specs.Ordering.{eq_by_cmp}
 use Rattle.std.specs.Cmp.{nat_cmp_total}
 use Rattle.std.specs.FinMap.{FinMap, nat_cmp-IsAntisymmetric}
 use Rattle.std.specs.FinMap as fin
+use Rattle.std.proofs.lemmas.Bool.{false_from_ne_true}
 use Rattle.esr_core.specs.Laws.NumberMaps.{tied}
 use Rattle.esr_model.specs.Values.{Formats}
 use Rattle.esr_model.specs.Image.{Image}
@@ -14,25 +15,13 @@ use Rattle.esr_core.specs.After.{answered, after}
 use Rattle.esr_core.specs.Allowed.{Allowed}
 use Rattle.esr_core.specs.Changes.{StepChange, NoChange, NewOp, NewDeletion, MergedDeletion, NewRestore, NewTicket, NewReader, OwnTicket, Settlement, UnitEnd, DeletionFailure, OpDrop, Election, ReaderFetch, ReaderEnd, PlainDraw, TestBlob, SwapFault}
 use Rattle.esr_core.specs.History.{world_from, IsLegal}
+use Rattle.esr_core.specs.Laws.Histories.{world_parts}
 use Rattle.esr_desk.specs.Start.{Start, Legal, formats_of, world_of, or_no_ticket, ticket_of}
 use Rattle.esr_desk.specs.Own.{or_no_reader, reader_of}
+use Rattle.esr_quiet.specs.PrefixLaws.{legal_rest}
 use Rattle.esr_drive.specs.Laws.{Laws}
 use Rattle.esr_drive.specs.Over.{IsOver}
 use Rattle.esr_drive.specs.Ended.{WasGiven}
-
-pub not_true : (b : Bool) → (b ≡ true → ⊥) → b ≡ false
-not_true true h = absurd (h refl)
-not_true false h = refl
-
--- ---- histories
-
-pub world_both : (f : Formats) (a b : List Moment) (w : World) → world_from f w (a ++ b) ≡ world_from f (world_from f w a) b
-world_both f [] b w = refl
-world_both f (m ∷ a) b w = world_both f a b (after f w m)
-
-pub legal_rest : (f : Formats) (size : ℕ) (a b : List Moment) (w : World) → IsLegal f size w (a ++ b) → IsLegal f size (world_from f w a) b
-legal_rest f size [] b w h = h
-legal_rest f size (m ∷ a) b w h = legal_rest f size a b (after f w m) h.1
 
 -- ---- maps
 
@@ -176,7 +165,7 @@ module _ (laws : Laws) (f : Formats) (out : World → ℕ → Bool)
   stays [] w k low none = none
   stays (m ∷ more) w k low none =
       stays more (after f w m) k (later laws f w m k low)
-      (not_true (out (after f w m) k) (λ is.
+      (false_from_ne_true (out (after f w m) k) (λ is.
       ⊎_elim
       (λ (was : out w k ≡ true). true≢false (sym was ∙ none))
       (λ (new : Comes w m.entry.step k). let less : k < w.next_ticket = low in let number : k ≡ w.next_ticket = new.0 in omega (arith, less, number))
@@ -207,7 +196,7 @@ module _ (laws : Laws) (f : Formats) (out : World → ℕ → Bool)
 
 module _ (laws : Laws) (s : Start) (old more new : List Moment) (is : new ≡ old ++ more) (k : ℕ) where
   both : world_of s new ≡ world_from (formats_of s) (world_of s old) more
-  both = ap (world_of s) is ∙ world_both (formats_of s) old more s.world
+  both = ap (world_of s) is ∙ world_parts (formats_of s) old more s.world
 
   pub next_on : k < (world_of s old).next_ticket → k < (world_of s new).next_ticket
   next_on low = subst (λ (w : World). k < w.next_ticket) (sym both) (next_later laws (formats_of s) more (world_of s old) k low)

@@ -1,5 +1,5 @@
 -- What elections leave, where nobody else makes a step.
-use Rattle.std.proofs.Common.{◌≡◌, ℕ, ◌+◌, ◌≤◌, true, List, [], ◌∷◌, ◌++◌, Result, Ok, Err, OnOk, IfErr, append-nil, refl, sym, ap, ◌∙◌, subst, inr, arith}
+use Rattle.std.proofs.Common.{◌≡◌, ℕ, ◌+◌, ◌≤◌, true, List, [], ◌∷◌, ◌++◌, Ok, Err, OnOk, IfErr, append-nil, refl, sym, ap, ◌∙◌, subst, inr, arith}
 use Rattle.esr_core.specs.Ready.{AnyReady}
 use Rattle.esr_core.specs.Entry.{TakeStep, ElectStep, Reply, NothingReady, ElectedTerm, Refusal, Refused, Moment}
 use Rattle.esr_desk.specs.declared.refusal.StepRefusal.{StepRefusal}
@@ -18,6 +18,7 @@ use Rattle.esr_drive.specs.Stopped.{IsStopped, StoppedIn, stopped_in}
 use Rattle.esr_drive.specs.Takes.{idle_takes, stepped_takes}
 use Rattle.esr_drive.specs.Works.{WorksOnly}
 use Rattle.esr_drive.specs.Elections.{WaitsOnly, elections, HasElected, elections_more, waits_none, waits_on, works_elect_none}
+use Rattle.esr_drive.specs.Worked.{Answer}
 use Rattle.esr_drive.proofs.Resting.{GivesNone, stepped_is, step_rest, step_readers}
 
 pub term_none : (term : ℕ) → GivesNone (ElectedTerm term)
@@ -93,9 +94,6 @@ pub all_elected : (s : Start) (made times : ℕ) (old new : List Moment) → mad
 all_elected s made times old new is was = subst (λ (n : ℕ). elections new ≡ elections old + n) is was.count
 
 -- ---- and the work after them
-
-abbrev Answer : Type 0
-Answer = Result (Unit {0}) StepRefusal
 
 pub elects_then : (times : ℕ) (old mid new : List Moment) (r : Answer) → elections mid ≡ elections old + times → WorksOnly mid new → HasElected times old new r
 elects_then times old mid new r all w = by_answer r (works_elect_none mid new w ∙ all)

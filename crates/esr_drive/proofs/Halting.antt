@@ -4,7 +4,6 @@ use Rattle.esr_model.specs.Values.{Bytes}
 use Rattle.esr_core.specs.World.{World, Ticket, Drop}
 use Rattle.esr_core.specs.Ready.{IsShard}
 use Rattle.esr_core.specs.Entry.{SettlePruned, Step, TakeStep, SettleStep, FinishStep, DroppedStep, PruneStep, Refusal, DeposedAt, StaleTerm, DepotFault, AbortedBy, Reply, Moment}
-use Rattle.esr_core.specs.Allowed.{Blocks, ByFailedSwap, ByDelete}
 use Rattle.esr_core.specs.Refusing.{MayRefuse, DropFault, DropStale, RefusedSo}
 use Rattle.esr_desk.specs.declared.refusal.EntryRefusal.{EntryRefusal}
 use Rattle.esr_desk.specs.declared.refusal.EntryRefusal.TheVariants as refusals
@@ -19,7 +18,7 @@ use Rattle.esr_desk.specs.Conditions.{CanFinish}
 use Rattle.esr_desk.specs.Taken.{LeftBy, HasEndedAs}
 use Rattle.esr_desk.specs.Halts.{Halts}
 use Rattle.esr_desk.specs.Evidence.{Evidence}
-use Rattle.esr_unit.specs.Refusals.{last_refused, over}
+use Rattle.esr_unit.specs.Refusals.{last_refused, over, IsBlock, block_is}
 use Rattle.esr_upload.specs.Refused as uploads
 use Rattle.esr_finish.specs.Refused as finishes
 use Rattle.esr_restore.specs.Refused as restores
@@ -29,18 +28,8 @@ use Rattle.esr_drive.specs.Stopped.{StopsWork, SaidDeposed, SettleFell, DropFell
 
 -- ---- a step that nothing but a block refuses
 
--- it is refused before it is looked at
-abbrev IsBlock : Refusal → Type 0
-IsBlock (DeposedAt place) = Unit {0}
-IsBlock (AbortedBy op) = Unit {0}
-IsBlock refusal = ⊥
-
-block_by : (w : World) (who : ℕ) (step : Step) (refusal : Refusal) → Blocks w who step refusal → IsBlock refusal
-block_by w who step _ (ByFailedSwap place deposed) = tt
-block_by w who step _ (ByDelete op deposed aborted) = tt
-
 so_blocked : (w : World) (who : ℕ) (step : Step) (refusal : Refusal) → (MayRefuse step refusal → ⊥) → RefusedSo w who step refusal → IsBlock refusal
-so_blocked w who step refusal none (inl blocks) = block_by w who step refusal blocks
+so_blocked w who step refusal none (inl blocks) = block_is w who step refusal blocks
 so_blocked w who step refusal none (inr may) = absurd (none may)
 
 -- where no delete can have aborted its op, a record swap had failed
@@ -88,7 +77,7 @@ may_drop _ DropFault = tt
 may_drop _ (DropStale own now) = tt
 
 so_dropped : (w : World) (who : ℕ) (refusal : Refusal) → RefusedSo w who DroppedStep refusal → MayRefuseDrop refusal
-so_dropped w who refusal (inl blocks) = block_drop refusal (block_by w who DroppedStep refusal blocks)
+so_dropped w who refusal (inl blocks) = block_drop refusal (block_is w who DroppedStep refusal blocks)
 so_dropped w who refusal (inr may) = may_drop refusal may
 
 module _ (laws : Laws) (s : Start) (old new : List Moment) (who : ℕ) (work : (ticket_of s old who).work ≡ Drop) where

@@ -1,10 +1,11 @@
 -- Two passes made one: what their workers and elections have made together.
-use Rattle.std.proofs.Common.{◌≡◌, ◌⊎◌, inl, inr, ⊎_elim, ℕ, ◌+◌, ◌≤◌, List, [], ◌∷◌, ◌++◌, length, OnOk, IfErr, Ok, Err, length-append, append_assoc, sym, ap, ◌∙◌, subst, arith}
+use Rattle.std.proofs.Common.{◌≡◌, ◌⊎◌, inl, inr, ⊎_elim, ℕ, ◌+◌, ◌≤◌, List, ◌++◌, length, OnOk, IfErr, Ok, Err, length-append, append_assoc, sym, ap, ◌∙◌, subst, arith}
 use Rattle.esr_model.specs.Values.{Has}
 use Rattle.esr_core.specs.Entry.{Moment}
 use Rattle.esr_turns.specs.Passes.{LockId}
 use Rattle.esr_turns.specs.Places.{merged}
 use Rattle.esr_turns.specs.Histories.{StartsWith, longer}
+use Rattle.esr_model.specs.Lists.{Has-left}
 use Rattle.esr_desk.specs.declared.refusal.StepRefusal.{StepRefusal}
 use Rattle.esr_desk.specs.declared.refusal.StepRefusal.TheVariants as steps
 use Rattle.esr_desk.specs.Start.{Start, Legal}
@@ -58,11 +59,6 @@ err_both P Q R (Err (steps.Refused refusal)) (Err e) first second h g = second e
 
 -- ---- as the history goes on
 
-has_longer : (old more : List Moment) (m : Moment) → Has old m → Has (old ++ more) m
-has_longer [] more m h = absurd h
-has_longer (x ∷ old) more m (inl same) = inl same
-has_longer (x ∷ old) more m (inr h) = inr (has_longer old more m h)
-
 pub stopped_on : (s : Start) (old all : List Moment) (e : StepRefusal) → StartsWith all old → StoppedIn s old e → StoppedIn s all e
 stopped_on s old all steps.Memory starts h = tt
 stopped_on s old all steps.TurnsSpent starts h =
@@ -70,7 +66,7 @@ stopped_on s old all steps.TurnsSpent starts h =
     omega (arith, whole, h)
 stopped_on s old all (steps.Refused refusal) starts h = record {
   moment = h.moment;
-  there = subst (λ (l : List Moment). Has l h.moment) (sym starts.1) (has_longer old starts.0 h.moment h.there);
+  there = subst (λ (l : List Moment). Has l h.moment) (sym starts.1) (Has-left old starts.0 h.moment h.there);
   same = h.same;
   step = h.step;
   stops = h.stops;
@@ -84,12 +80,14 @@ starts_before before all seen starts = (starts.0, ap (λ (l : List Moment). befo
 
 -- ---- both
 
-module _ (stays : OverStays) (s : Start) (before : List Moment) (one other all : Seen) (seen : all.seen ≡ longer one.seen other.seen) (starts : StartsWith all.seen one.seen × StartsWith all.seen other.seen) (mine : all.mine ≡ merged one.mine other.mine)
+module _ (stays : OverStays) (s : Start) (before : List Moment) (one other all : Seen) (seen : all.seen ≡ longer one.seen other.seen)
+    (starts : StartsWith all.seen one.seen × StartsWith all.seen other.seen) (mine : all.mine ≡ merged one.mine other.mine)
     (first : IsFit s before one) (second : IsFit s before other) where
   fit_both : IsFit s before all
   fit_both = record {
     below = subst (AreBelow (length all.seen)) (sym mine)
-        (below_merged (length all.seen) one.mine other.mine (below_more (length one.seen) (length all.seen) one.mine (no_shorter one.seen starts.0) first.below) (below_more (length other.seen) (length all.seen) other.mine (no_shorter other.seen starts.1) second.below));
+        (below_merged (length all.seen) one.mine other.mine (below_more (length one.seen) (length all.seen) one.mine (no_shorter one.seen starts.0) first.below)
+        (below_more (length other.seen) (length all.seen) other.mine (no_shorter other.seen starts.1) second.below));
     legal = subst (λ (l : List Moment). Legal s (before ++ l)) (sym seen) (longer_has (λ (l : List Moment). Legal s (before ++ l)) one.seen other.seen first.legal second.legal);
     never = λ quiet. subst (λ (l : List Moment). NeverFailed (before ++ l)) (sym seen) (longer_has (λ (l : List Moment). NeverFailed (before ++ l)) one.seen other.seen (first.never quiet) (second.never quiet));
   }
@@ -109,12 +107,14 @@ module _ (stays : OverStays) (s : Start) (before : List Moment) (one other all :
   -- a call is one of either's
   of_either : (c : Call) → Has (calls_of all) c → Has (calls_of one) c ⊎ Has (calls_of other) c
   of_either c has =
-      ⊎_elim (λ (h : Has (calls_in (length before) all.seen one.mine) c). inl (subst (λ (calls : List Call). Has calls c) one_calls h)) (λ (h : Has (calls_in (length before) all.seen other.mine) c). inr (subst (λ (calls : List Call). Has calls c) other_calls h))
+      ⊎_elim (λ (h : Has (calls_in (length before) all.seen one.mine) c). inl (subst (λ (calls : List Call). Has calls c) one_calls h))
+      (λ (h : Has (calls_in (length before) all.seen other.mine) c). inr (subst (λ (calls : List Call). Has calls c) other_calls h))
       (has_merged (length before) all.seen one.mine other.mine c (subst (λ (p : List ℕ). Has (calls_in (length before) all.seen p) c) mine has))
 
   weigh_all : (h : Call → ℕ) → weigh h (calls_of all) ≡ weigh h (calls_of one) + weigh h (calls_of other)
   weigh_all h =
-      let whole : weigh h (calls_of all) ≡ weigh h (calls_in (length before) all.seen one.mine) + weigh h (calls_in (length before) all.seen other.mine) = ap (λ (p : List ℕ). weigh h (calls_in (length before) all.seen p)) mine ∙ weigh_merged (length before) all.seen h one.mine other.mine in
+      let whole : weigh h (calls_of all) ≡ weigh h (calls_in (length before) all.seen one.mine) + weigh h (calls_in (length before) all.seen other.mine) =
+      ap (λ (p : List ℕ). weigh h (calls_in (length before) all.seen p)) mine ∙ weigh_merged (length before) all.seen h one.mine other.mine in
       let a : weigh h (calls_in (length before) all.seen one.mine) ≡ weigh h (calls_of one) = ap (weigh h) one_calls in
       let b : weigh h (calls_in (length before) all.seen other.mine) ≡ weigh h (calls_of other) = ap (weigh h) other_calls in
       omega (arith, whole, a, b)
@@ -144,7 +144,8 @@ module _ (stays : OverStays) (s : Start) (before : List Moment) (one other all :
       all = ok_both (weigh idle_call (calls_of one) ≡ m) (weigh idle_call (calls_of other) ≡ n) (weigh idle_call (calls_of all) ≡ m + n) r t idle_all a.all b.all;
       elected = subst (λ (made : ℕ). AreElected (graver r t) made (k + l)) (sym (weigh_all election_call)) (elected_both r t (weigh election_call (calls_of one)) (weigh election_call (calls_of other)) k l a.elected b.elected);
       over = ok_both (EachOver s (before ++ one.seen) (calls_of one)) (EachOver s (before ++ other.seen) (calls_of other)) (EachOver s log (calls_of all)) r t over_all a.over b.over;
-      stopped = err_both (StoppedIn s (before ++ one.seen)) (StoppedIn s (before ++ other.seen)) (StoppedIn s log) r t (λ e h. stopped_on s (before ++ one.seen) log e to_one h) (λ e h. stopped_on s (before ++ other.seen) log e to_other h) a.stopped b.stopped;
+      stopped = err_both (StoppedIn s (before ++ one.seen)) (StoppedIn s (before ++ other.seen)) (StoppedIn s log) r t
+          (λ e h. stopped_on s (before ++ one.seen) log e to_one h) (λ e h. stopped_on s (before ++ other.seen) log e to_other h) a.stopped b.stopped;
     }
 
 -- the pass that two passes make, of which the whole was split

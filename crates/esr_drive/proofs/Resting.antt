@@ -1,5 +1,6 @@
 -- No ticket is out after a round, nor one of a restore.
 use Rattle.std.proofs.Common.{◌≡◌, ◌≢◌, ℕ, ◌≤◌, true, true≢false, Option, Some, IfSome, List, [], ◌∷◌, ◌++◌, append-nil, append_assoc, sym, ap, ◌∙◌, subst, ⊎_elim, arith}
+use Rattle.std.proofs.lemmas.Bool.{false_from_ne_true}
 use Rattle.esr_core.specs.Entry.{Step, TakeStep, NothingReady, Given, Gave, Reply, Entry, Moment}
 use Rattle.esr_desk.specs.declared.unit.Unit.{Unit as Taken}
 use Rattle.esr_desk.specs.Calls.{Call, HasTaken}
@@ -11,7 +12,7 @@ use Rattle.esr_model.specs.Values.{Has}
 use Rattle.esr_drive.specs.Laws.{Laws}
 use Rattle.esr_drive.specs.Over.{NoReaderOut, IsOver}
 use Rattle.esr_drive.specs.Ended.{WasGiven}
-use Rattle.esr_drive.proofs.Coming.{not_true, ticket_from, reader_from}
+use Rattle.esr_drive.proofs.Coming.{ticket_from, reader_from}
 
 pub is_some : (n : ℕ) → 1 ≤ n → n ≢ 0
 is_some n le e = let has : 1 ≤ n = le in let none : n ≡ 0 = e in omega (arith, has, none)
@@ -65,7 +66,7 @@ module _ (laws : Laws) (s : Start) (alone : s.alone ≡ true) where
 
   pub step_rest : (old new : List Moment) (step : Step) (reply : Reply) → GivesNone reply → Stepped s old new 0 step reply → NoneOut s old → NoneOut s new
   step_rest old new step reply none h rest k =
-      not_true (ticket_of s new k).out (λ out.
+      false_from_ne_true (ticket_of s new k).out (λ out.
       ⊎_elim
       (λ (was : (ticket_of s old k).out ≡ true). true≢false (sym was ∙ rest k))
       (λ (given : WasGiven (last_of h ∷ []) k). not_given (last_of h) k none given)
@@ -73,7 +74,7 @@ module _ (laws : Laws) (s : Start) (alone : s.alone ≡ true) where
 
   pub step_readers : (old new : List Moment) (step : Step) (reply : Reply) → GivesNone reply → Stepped s old new 0 step reply → NoReaderOut s old → NoReaderOut s new
   step_readers old new step reply none h rest k =
-      not_true (reader_of s new k).out (λ out.
+      false_from_ne_true (reader_of s new k).out (λ out.
       ⊎_elim
       (λ (was : (reader_of s old k).out ≡ true). true≢false (sym was ∙ rest k))
       (λ (given : WasGiven (last_of h ∷ []) k). not_given (last_of h) k none given)
@@ -95,7 +96,7 @@ module _ (laws : Laws) (s : Start) (alone : s.alone ≡ true) where
 
     pub unit_rest : NoneOut s old → NoneOut s new
     unit_rest rest k =
-        not_true (ticket_of s new k).out (λ out.
+        false_from_ne_true (ticket_of s new k).out (λ out.
         ⊎_elim
         (λ (was : (ticket_of s old k).out ≡ true). true≢false (sym was ∙ rest k))
         (λ (given : WasGiven (last_of h ∷ g.more) k). true≢false (sym out ∙ ap (λ (j : ℕ). (ticket_of s new j).out) (in_round k given) ∙ over.ticket))
@@ -103,7 +104,7 @@ module _ (laws : Laws) (s : Start) (alone : s.alone ≡ true) where
 
     pub unit_readers : NoReaderOut s old → NoReaderOut s new
     unit_readers rest k =
-        not_true (reader_of s new k).out (λ out.
+        false_from_ne_true (reader_of s new k).out (λ out.
         ⊎_elim
         (λ (was : (reader_of s old k).out ≡ true). true≢false (sym was ∙ rest k))
         (λ (given : WasGiven (last_of h ∷ g.more) k). true≢false (sym out ∙ ap (λ (j : ℕ). (reader_of s new j).out) (in_round k given) ∙ over.reader))

@@ -2,6 +2,7 @@
 use Rattle.std.proofs.Common.{◌≡◌, ◌⊎◌, ℕ, ◌+◌, ◌-◌, Bool, true, false, List, [], ◌∷◌, ◌++◌, length, Option, Some, None, Ok, Err, append-nil, append_assoc, refl, sym, ap, ◌∙◌, subst, inl, inr, ⊎_elim, arith}
 use Rattle.esr_model.specs.Values.{Has, Formats}
 use Rattle.esr_model.specs.Image.{Image}
+use Rattle.esr_model.specs.Lists.{Has-either}
 use Rattle.esr_core.specs.World.{World}
 use Rattle.esr_core.specs.Ready.{AnyReady}
 use Rattle.esr_core.specs.Entry.{Given, Step, TakeStep, Reply, NothingReady, Gave, Refusal, Refused, Moment}
@@ -11,18 +12,13 @@ use Rattle.esr_desk.specs.declared.refusal.StepRefusal.{StepRefusal}
 use Rattle.esr_desk.specs.Calls.{Call, with_call, with_refusal}
 use Rattle.esr_desk.specs.Start.{Start, Legal, formats_of, world_of}
 use Rattle.esr_desk.specs.Outcome.{Stepped}
+use Rattle.esr_quiet.specs.PrefixLaws.{legal_rest}
 use Rattle.esr_drive.specs.Calls.{TakeCalls, WorkedCalls, found_none}
 use Rattle.esr_drive.specs.Ended.{EachOver, AllEnded}
 use Rattle.esr_drive.specs.Laws.{Laws}
 use Rattle.esr_drive.specs.Over.{IsOver}
 use Rattle.esr_drive.specs.Takes.{idle_take, idle_calls}
-use Rattle.esr_drive.proofs.Coming.{legal_rest}
 use Rattle.esr_drive.proofs.Resting.{nothing_none, gave_number, stepped_is}
-
-has_both : (a b : List Call) (c : Call) → Has (a ++ b) c → Has a c ⊎ Has b c
-has_both [] b c has = inr has
-has_both (x ∷ a) b c (inl here) = inl (inl here)
-has_both (x ∷ a) b c (inr has) = ⊎_elim (λ (first : Has a c). inl (inr first)) (λ (second : Has b c). inr second) (has_both a b c has)
 
 idle_both : (a b : List Call) → idle_calls (a ++ b) ≡ idle_calls a + idle_calls b
 idle_both [] b = omega arith
@@ -49,7 +45,7 @@ calls_on count a b c first second =
     record {
       more = first.more ++ second.more;
       is = second.is ∙ ap (λ (l : List Call). l ++ second.more) first.is ∙ append_assoc a first.more second.more;
-      takes = λ x has. ⊎_elim (first.takes x) (second.takes x) (has_both first.more second.more x has);
+      takes = λ x has. ⊎_elim (first.takes x) (second.takes x) (Has-either first.more second.more x has);
       idle = omega (arith, whole, none, some);
     }
 
@@ -95,7 +91,7 @@ pub ended_on : (s : Start) (mid new : List Moment) (count more : ℕ) (a b c : L
     → AllEnded s new a c
 ended_on s mid new count more a b c over first second early late =
     all_ended s new a c (first.more ++ second.more) (second.is ∙ ap (λ (l : List Call). l ++ second.more) first.is ∙ append_assoc a first.more second.more)
-    (λ x k o u has gave. ⊎_elim (λ (was : Has first.more x). over k (early first.more first.is x k o u was gave)) (λ (is : Has second.more x). late second.more second.is x k o u is gave) (has_both first.more second.more x has))
+    (λ x k o u has gave. ⊎_elim (λ (was : Has first.more x). over k (early first.more first.is x k o u was gave)) (λ (is : Has second.more x). late second.more second.is x k o u is gave) (Has-either first.more second.more x has))
 
 pub ended_took : (s : Start) (log seen : List Moment) (ticket op : ℕ) (unit : Given) (old new : List Call) → new ≡ with_call log TakeStep (Gave ticket op unit) old → IsOver s seen ticket → AllEnded s seen old new
 ended_took s log seen ticket op unit old new is over =

@@ -3,6 +3,7 @@ use Rattle.std.proofs.Common.{◌≡◌, ◌⊎◌, inl, inr, ⊎_elim, ℕ, zer
 use Rattle.esr_model.specs.Values.{Has}
 use Rattle.esr_turns.specs.Places.{places_from, inserted, merged}
 use Rattle.esr_turns.specs.Histories.{StartsWith}
+use Rattle.esr_model.specs.Lists.{Has-either, Has-left, Has-right}
 use Rattle.esr_core.specs.Entry.{Moment}
 use Rattle.esr_desk.specs.Calls.{Call, call_at, calls_at}
 use Rattle.esr_drive.specs.Takes.{idle_call, idle_calls}
@@ -15,20 +16,6 @@ use Rattle.esr_drive.proofs.Places.{below_first, below_rest}
 pub weigh_both : (h : Call → ℕ) (a b : List Call) → weigh h (a ++ b) ≡ weigh h a + weigh h b
 weigh_both h [] b = omega arith
 weigh_both h (c ∷ a) b = let rest : weigh h (a ++ b) ≡ weigh h a + weigh h b = weigh_both h a b in omega (arith, rest)
-
-pub has_either : (a b : List Call) (c : Call) → Has (a ++ b) c → Has a c ⊎ Has b c
-has_either [] b c h = inr h
-has_either (x ∷ a) b c (inl same) = inl (inl same)
-has_either (x ∷ a) b c (inr h) = ⊎_elim (λ k. inl (inr k)) (λ k. inr k) (has_either a b c h)
-
-pub has_front : (a b : List Call) (c : Call) → Has a c → Has (a ++ b) c
-has_front [] b c h = absurd h
-has_front (x ∷ a) b c (inl same) = inl same
-has_front (x ∷ a) b c (inr h) = inr (has_front a b c h)
-
-pub has_back : (a b : List Call) (c : Call) → Has b c → Has (a ++ b) c
-has_back [] b c h = h
-has_back (x ∷ a) b c h = inr (has_back a b c h)
 
 pub weigh_idle : (calls : List Call) → idle_calls calls ≡ weigh idle_call calls
 weigh_idle [] = refl
@@ -60,23 +47,23 @@ module _ (base : ℕ) (log : List Moment) where
   IsIn p c = Has (calls_in base log p) c
 
   has_inserted : (x : ℕ) (p : List ℕ) (c : Call) → IsIn (inserted x p) c → Has (call_in base log x) c ⊎ IsIn p c
-  has_inserted x [] c h = has_either (call_in base log x) [] c h
+  has_inserted x [] c h = Has-either (call_in base log x) [] c h
   has_inserted x (y ∷ p) c h =
       let rec : IsIn (inserted x p) c → Has (call_in base log x) c ⊎ IsIn p c = has_inserted x p c in
       let which : IsIn (cond (nat_lt x y) (x ∷ y ∷ p) (y ∷ inserted x p)) c → Has (call_in base log x) c ⊎ IsIn (y ∷ p) c =
       elim (nat_lt x y) as (λ b. IsIn (cond b (x ∷ y ∷ p) (y ∷ inserted x p)) c → Has (call_in base log x) c ⊎ IsIn (y ∷ p) c) [
-        | true ↦ λ k. has_either (call_in base log x) (call_in base log y ++ calls_in base log p) c k
-        | false ↦ λ k. ⊎_elim (λ (j : Has (call_in base log y) c). inr (has_front (call_in base log y) (calls_in base log p) c j))
-            (λ (j : IsIn (inserted x p) c). ⊎_elim (λ (i : Has (call_in base log x) c). inl i) (λ (i : IsIn p c). inr (has_back (call_in base log y) (calls_in base log p) c i)) (rec j))
-            (has_either (call_in base log y) (calls_in base log (inserted x p)) c k)
+        | true ↦ λ k. Has-either (call_in base log x) (call_in base log y ++ calls_in base log p) c k
+        | false ↦ λ k. ⊎_elim (λ (j : Has (call_in base log y) c). inr (Has-left (call_in base log y) (calls_in base log p) c j))
+            (λ (j : IsIn (inserted x p) c). ⊎_elim (λ (i : Has (call_in base log x) c). inl i) (λ (i : IsIn p c). inr (Has-right (call_in base log y) (calls_in base log p) c i)) (rec j))
+            (Has-either (call_in base log y) (calls_in base log (inserted x p)) c k)
       ] in
       which h
 
   pub has_merged : (p q : List ℕ) (c : Call) → IsIn (merged p q) c → IsIn p c ⊎ IsIn q c
   has_merged [] q c h = inr h
   has_merged (x ∷ p) q c h =
-      ⊎_elim (λ (k : Has (call_in base log x) c). inl (has_front (call_in base log x) (calls_in base log p) c k))
-      (λ (k : IsIn (merged p q) c). ⊎_elim (λ (j : IsIn p c). inl (has_back (call_in base log x) (calls_in base log p) c j)) (λ (j : IsIn q c). inr j) (has_merged p q c k))
+      ⊎_elim (λ (k : Has (call_in base log x) c). inl (Has-left (call_in base log x) (calls_in base log p) c k))
+      (λ (k : IsIn (merged p q) c). ⊎_elim (λ (j : IsIn p c). inl (Has-right (call_in base log x) (calls_in base log p) c j)) (λ (j : IsIn q c). inr j) (has_merged p q c k))
       (has_inserted x (merged p q) c h)
 
 -- ---- in a longer history

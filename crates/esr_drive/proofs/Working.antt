@@ -5,6 +5,7 @@ use Rattle.esr_source.specs.Told.{SourcesTold, TargetsTold}
 use Rattle.esr_core.specs.Entry.{Step, TakeStep, ElectStep, Given, Reply, Gave, Moment}
 use Rattle.esr_turns.specs.Passes.{LockId, first_pass}
 use Rattle.esr_turns.specs.Histories.{StartsWith}
+use Rattle.esr_model.specs.Lists.{Has-either}
 use Rattle.esr_desk.specs.declared.refusal.StepRefusal.{StepRefusal}
 use Rattle.esr_desk.specs.declared.refusal.StepRefusal.TheVariants as steps
 use Rattle.esr_desk.specs.Start.{Start, Legal}
@@ -19,7 +20,7 @@ use Rattle.esr_drive.specs.Elections.{election}
 use Rattle.esr_handle.specs.Owned.{calls_in}
 use Rattle.esr_handle.specs.Turned.{shared, Seen, IsFit}
 use Rattle.esr_drive.specs.Worked.{weigh, election_call, Answer, AreElected, AreWorked, AreMade, HasElectedBy, IsNewPass, IsBack}
-use Rattle.esr_drive.proofs.Weights.{weigh_both, has_either, weigh_idle}
+use Rattle.esr_drive.proofs.Weights.{weigh_both, weigh_idle}
 
 -- ---- as a worker sees the start
 
@@ -94,7 +95,8 @@ module _ (old : List Call) where
       nil [] = refl
       nil (x ∷ l) = ap (λ (r : List Call). x ∷ r) (nil l)
 
-  pub elected_one : (new : List Call) (place : ℕ) (reply : Reply) → new ≡ old ++ record { place = place; entry = record { who = 0; step = ElectStep; reply = reply } } ∷ [] → ((k o : ℕ) (u : Given) → reply ≡ Gave k o u → ⊥) → HasElectedBy 1 old new (Ok tt)
+  pub elected_one : (new : List Call) (place : ℕ) (reply : Reply) → new ≡ old ++ record { place = place; entry = record { who = 0; step = ElectStep; reply = reply } } ∷ [] → ((k o : ℕ) (u : Given) → reply ≡ Gave k o u → ⊥)
+      → HasElectedBy 1 old new (Ok tt)
   elected_one new place reply is gave = record {
     more = record { place = place; entry = record { who = 0; step = ElectStep; reply = reply } } ∷ [];
     is = is;
@@ -120,8 +122,8 @@ pub elected_on : (old mid new : List Call) (answer : Answer) (a b times : ℕ) �
 elected_on old mid new answer a b times same le first second = record {
   more = first.more ++ second.more;
   is = second.is ∙ ap (λ (l : List Call). l ++ second.more) first.is ∙ apart old first.more second.more;
-  only = λ c has. ⊎_elim (λ h. first.only c h) (λ h. second.only c h) (has_either first.more second.more c has);
-  gave = λ c k o u has is. ⊎_elim (λ h. first.gave c k o u h is) (λ h. second.gave c k o u h is) (has_either first.more second.more c has);
+  only = λ c has. ⊎_elim (λ h. first.only c h) (λ h. second.only c h) (Has-either first.more second.more c has);
+  gave = λ c k o u has is. ⊎_elim (λ h. first.gave c k o u h is) (λ h. second.gave c k o u h is) (Has-either first.more second.more c has);
   idle = (let whole : weigh idle_call (first.more ++ second.more) ≡ weigh idle_call first.more + weigh idle_call second.more = weigh_both idle_call first.more second.more in let x = first.idle in let y = second.idle in omega (arith, whole, x, y));
   made = subst (λ (n : ℕ). AreMade answer n times) (sym (weigh_both election_call first.more second.more))
       (made_of_more answer (weigh election_call first.more + weigh election_call second.more) (a + b) times same le (made_more answer (weigh election_call first.more) (weigh election_call second.more) a b first.made second.made));

@@ -1,6 +1,6 @@
 -- Why the work stopped before all units were done.
-use Rattle.std.specs.Prelude.{◌≡◌, ◌≢◌, ◌⊎◌, ℕ, Bool, true, false, List, [], ◌∷◌, ◌++◌, Result, Ok, Err}
-use Rattle.std.proofs.Common.{refl, sym, subst, inl, inr}
+use Rattle.std.specs.Prelude.{◌≡◌, ◌≢◌, ◌⊎◌, ℕ, Bool, true, false, List, Result, Ok, Err}
+use Rattle.std.proofs.Common.{refl, sym, subst}
 use Rattle.esr_model.specs.Values.{Has}
 use Rattle.esr_core.specs.World.{Ticket}
 use Rattle.esr_core.specs.Entry.{SettlePruned, Step, TakeStep, SettleStep, DroppedStep, PruneStep, Refusal, DeposedAt, DepotFault, Refused, Moment}
@@ -15,6 +15,7 @@ use Rattle.esr_desk.specs.Refusals.{refusal_of}
 use Rattle.esr_desk.specs.Start.{Start}
 use Rattle.esr_desk.specs.Outcome.{Grounds}
 use Rattle.esr_desk.specs.Last.{IsLast}
+use Rattle.esr_unit.specs.Refusals.{has_last}
 
 abbrev pub IsDrop : Work → Type 0
 IsDrop works.Drop = Unit {0}
@@ -75,10 +76,6 @@ abbrev pub StoppedIn : Start → List Moment → StepRefusal → Type 0
 StoppedIn s log steps.Memory = Unit {0}
 StoppedIn s log steps.TurnsSpent = Grounds s log 0 steps.TurnsSpent
 StoppedIn s log (steps.Refused refusal) = WasStopped log (refusal_of refusal)
-
-has_last : (front : List Moment) (m : Moment) → Has (front ++ m ∷ []) m
-has_last [] m = inl refl
-has_last (x ∷ front) m = inr (has_last front m)
 
 pub stopped_in : (s : Start) (log : List Moment) (e : StepRefusal) → IsStopped s log e → StoppedIn s log e
 stopped_in s log steps.Memory h = tt

@@ -75,7 +75,8 @@ ticket_failed hands.Unit t own may = refl
 ticket_failed hands.Delete t own may = refl
 ticket_failed hand t own may = absurd may
 
-failed_as : {S F H T : Type 0} (hand : Hand) (e : Evidence S F H T) (s : Start) (log : List Moment) (who : ℕ) (why : Why) (b : By S F H T) → EndsAs {S = S} {F = F} {H = H} {T = T} hand (endings.Failed why b) → HasFailed hand e s log who why → HasFailedAs hand e s log who why
+failed_as : {S F H T : Type 0} (hand : Hand) (e : Evidence S F H T) (s : Start) (log : List Moment) (who : ℕ) (why : Why) (b : By S F H T) → EndsAs {S = S} {F = F} {H = H} {T = T} hand (endings.Failed why b) → HasFailed hand e s log who why
+    → HasFailedAs hand e s log who why
 failed_as hands.Unit e s log who why b cause failed = (cause, failed)
 failed_as hand e s log who why b cause failed = failed
 
@@ -131,7 +132,8 @@ given_halted e s old mid new who (units.Stopped refusal) same (kept, halts) = (i
 
 -- its settle was refused
 pub settle_halted : {S F H T : Type 0} (e : Evidence S F H T) (s : Start) (old mid new : List Moment) (who : ℕ) (refusal : StepRefusal) (result : UnitRefusal)
-    → LeftBy {X = Unit {0}} (IsSettled (ticket_of s old who)) (Err refusal) (ticket_of s old who) (ticket_of s mid who) → IsRefusedBy s old mid who SettleStep refusal → IsSwapRefused hands.Unit e s mid new who refusal result → IsHalted e s old new who result
+    → LeftBy {X = Unit {0}} (IsSettled (ticket_of s old who)) (Err refusal) (ticket_of s old who) (ticket_of s mid who) → IsRefusedBy s old mid who SettleStep refusal → IsSwapRefused hands.Unit e s mid new who refusal result
+    → IsHalted e s old new who result
 settle_halted {S} {F} {H} {T} e s old mid new who refusal result left refused (inl (fault, is, same)) =
     subst (λ (log : List Moment). IsHalted {S = S} {F = F} {H = H} {T = T} e s old log who result) (sym same)
     (subst (IsHalted {S = S} {F = F} {H = H} {T = T} e s old mid who) (sym is) (fault_halts e s old mid who refusal fault left refused.0))

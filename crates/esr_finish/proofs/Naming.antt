@@ -1,7 +1,7 @@
 -- The names of a finalization's metadata are apart.
-use Rattle.std.proofs.Common.{◌≡◌, ◌≢◌, inl, inr, ℕ, zero, suc, ◌<◌, ◌==◌, ◌||◌, Bool, true, false, List, [], ◌∷◌, ◌++◌, length, take, get_or, append-nil, append_assoc, refl, sym, ap, ◌∙◌, subst, true≢false, arith}
+use Rattle.std.proofs.Common.{◌≡◌, ◌≢◌, inl, inr, ℕ, zero, suc, ◌<◌, ◌==◌, false, List, [], ◌∷◌, ◌++◌, length, take, get_or, append-nil, append_assoc, refl, sym, ap, ◌∙◌, subst, true≢false, arith}
 use Rattle.std.specs.List.{list_any}
-use Rattle.std.proofs.lemmas.Bool.{eq-eqb}
+use Rattle.std.proofs.lemmas.Bool.{eq-eqb, or_parts}
 use Rattle.esr_model.specs.Names.{BlobName, Snap, Meta, IndexMeta}
 use Rattle.esr_model.specs.Values.{Bytes, Has}
 use Rattle.esr_model.specs.Values as values
@@ -18,20 +18,12 @@ use Rattle.esr_finish.specs.SwapBlobs.{noted_before}
 
 -- ---- ids
 
-or_left : (a b : Bool) → a || b ≡ false → a ≡ false
-or_left true b e = absurd (true≢false e)
-or_left false b e = refl
-
-or_right : (a b : Bool) → a || b ≡ false → b ≡ false
-or_right true b e = absurd (true≢false e)
-or_right false b e = e
-
 no_clash : (r : IndexRef) (before : List IndexRef) (b : IndexRef) → list_any (clashes r) before ≡ false → Has before b → b.id.number ≡ r.id.number → ⊥
 no_clash r [] b free none same = none
 no_clash r (x ∷ before) b free (inl here) same =
-    let id : (b.id.number == r.id.number) ≡ false = subst (λ (y : IndexRef). (y.id.number == r.id.number) ≡ false) here (or_right _ (x.id.number == r.id.number) (or_left (clashes r x) (list_any (clashes r) before) free)) in
+    let id : (b.id.number == r.id.number) ≡ false = subst (λ (y : IndexRef). (y.id.number == r.id.number) ≡ false) here (or_parts _ (x.id.number == r.id.number) (or_parts (clashes r x) (list_any (clashes r) before) free).0).1 in
     true≢false (sym (eq-eqb b.id.number r.id.number same) ∙ id)
-no_clash r (x ∷ before) b free (inr later) same = no_clash r before b (or_right (clashes r x) (list_any (clashes r) before) free) later same
+no_clash r (x ∷ before) b free (inr later) same = no_clash r before b (or_parts (clashes r x) (list_any (clashes r) before) free).1 later same
 
 apart_at : (before refs : List IndexRef) (k : ℕ) (d : IndexRef) → AreRefs before refs → k < length refs → list_any (clashes (get_or refs k d)) (before ++ take k refs) ≡ false
 apart_at before [] k d are less = absurd (omega arith)

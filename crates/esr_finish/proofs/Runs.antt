@@ -1,5 +1,4 @@
 -- Runs of steps, one after another.
-use Rattle.std.specs.Result.{IsErrAnd}
 use Rattle.std.proofs.Common.{◌≡◌, ◌⊎◌, inl, inr, IfOk, IfErr, ℕ, Bool, true, false, List, ◌∷◌, Option, Some, None, Result, Ok, Err, refl, sym, subst}
 use Rattle.esr_core.specs.World.{Ticket}
 use Rattle.std.specs.Prelude.{if◌then◌else◌}
@@ -18,11 +17,6 @@ use Rattle.esr_desk.specs.Grew.{stepped_grew_by, outcome_grew_by}
 use Rattle.esr_desk.specs.Taken.{committed_by, tried, tried_by, begun_by, LeftBy, HasRaised}
 use Rattle.esr_finish.specs.Went.{Worked, Went}
 use Rattle.esr_finish.specs.Runs.{worked_not}
-
--- an error that was made of another
-pub passed : {T E : Type 0} (result : Result T E) (P : E → Type 0) (e : E) → IsErrAnd result (λ x. x ≡ e) → P e → IfErr result P
-passed (Ok x) P e is holds = tt
-passed (Err y) P e is holds = subst P (sym is) holds
 
 -- ---- what a step makes of the ticket
 

@@ -106,7 +106,8 @@ ends_so S F H T (refusals.StaleTerm own now) may = tt
 ends_so S F H T x may = absurd may
 
 -- it fails for no other reason than a finalization may
-pub put_ends : {S F : Type 0} (H T : Type 0) (s : Start) (faults : S → ℕ) (log : List Moment) (who : ℕ) (trouble : Trouble S F) → RefusesSo → IsPutRefused s faults log who trouble → EndsAsMaster {S = S} {F = F} {H = H} {T = T} (ending_by trouble)
+pub put_ends : {S F : Type 0} (H T : Type 0) (s : Start) (faults : S → ℕ) (log : List Moment) (who : ℕ) (trouble : Trouble S F) → RefusesSo → IsPutRefused s faults log who trouble
+    → EndsAsMaster {S = S} {F = F} {H = H} {T = T} (ending_by trouble)
 put_ends H T s faults log who (troubles.Step steps.Memory) law h = tt
 put_ends H T s faults log who (troubles.Step steps.TurnsSpent) law h = tt
 put_ends {S} {F} H T s faults log who (troubles.Step (steps.Refused x)) law h =
@@ -151,7 +152,8 @@ finish_shown hand e s old new who steps.TurnsSpent law may h = h.1
 finish_shown {S} {F} {H} {T} hand e s old new who (steps.Refused x) law may h = finish_entry {S = S} {F = F} {H = H} {T = T} hand e s old new who x may (finish_refused law s old new who (refusal_of x) h.0) h.0 h.1
 
 -- no finish is refused as its term is over, and it fails as a finalization may
-finish_entry_ends : {S F H T : Type 0} (x : EntryRefusal) → IsBlock (refusal_of x) → (◌≡◌ {A = Ending S F H T} (ending_at (steps.Refused x)) endings.Stale → ⊥) × EndsAsMaster {S = S} {F = F} {H = H} {T = T} (ending_at (steps.Refused x))
+finish_entry_ends : {S F H T : Type 0} (x : EntryRefusal) → IsBlock (refusal_of x)
+    → (◌≡◌ {A = Ending S F H T} (ending_at (steps.Refused x)) endings.Stale → ⊥) × EndsAsMaster {S = S} {F = F} {H = H} {T = T} (ending_at (steps.Refused x))
 finish_entry_ends (refusals.Deposed entry) block = ((λ same. cc), tt)
 finish_entry_ends (refusals.Aborted op) block = ((λ same. cc), tt)
 finish_entry_ends x block = absurd block

@@ -1,6 +1,5 @@
 pub mod ByKind
 pub mod Inverses
-pub mod NameRules
 pub mod MetaTexts
 pub mod NameTexts
 pub mod RecordTexts

@@ -1,7 +1,7 @@
 -- What a finalization writes of a snapshot that can be made reads back.
-use Rattle.std.proofs.Common.{◌≡◌, ◌≢◌, ℕ, ◌<◌, ◌^◌, ◌==◌, ◌||◌, Bool, true, false, None, inl, inr, refl, sym, subst, ◌⊎◌, ⊎_elim, List, [], ◌∷◌, ◌++◌, ◌+◌, length, drop, get_or, map, bytes_eq, arith, Option}
+use Rattle.std.proofs.Common.{◌≡◌, ◌≢◌, ℕ, ◌<◌, ◌^◌, ◌==◌, Bool, false, None, inl, inr, refl, sym, subst, ◌⊎◌, ⊎_elim, List, [], ◌∷◌, ◌++◌, ◌+◌, length, drop, get_or, map, bytes_eq, arith, Option}
 use Rattle.std.specs.List.{list_any, AllByRecursion}
-use Rattle.std.proofs.lemmas.Bool.{eqb-true, false_from_ne_true}
+use Rattle.std.proofs.lemmas.Bool.{eqb-true, false_from_ne_true, or_from}
 use Rattle.std.proofs.lemmas.List.{at_drop_more}
 use Rattle.std.proofs.lemmas.Slice.Eq.{bytes_eq-Decides}
 use Rattle.esr_names.specs.declared.ids.Id.{Id}
@@ -31,10 +31,6 @@ all_from P xs i x within there here rest =
 
 -- ---- indices that are apart can be listed
 
-either_false : (x y : Bool) → x ≡ false → y ≡ false → (x || y) ≡ false
-either_false true y a b = absurd cc
-either_false false y a b = b
-
 -- those before have none of the names and ids of the rest
 abbrev AreFree : List CodeRef → List CodeRef → Type 0
 AreFree before rs = (q : IndexRef) → Has (map ref_of_code rs) q → (b : IndexRef) → Has (map ref_of_code before) b → (q.name ≢ b.name) × (q.id ≢ b.id)
@@ -45,7 +41,7 @@ none_clashes r (b ∷ bs) apart =
     let here = apart (ref_of_code b) (inl refl) in
     let name : bytes_eq b.name r.name ≡ false = false_from_ne_true _ (λ h. here.0 (sym ((bytes_eq-Decides b.name r.name).0 h))) in
     let id : (b.id.number == r.id.number) ≡ false = false_from_ne_true _ (λ h. here.1 (sym (eqb-true b.id.number r.id.number h))) in
-    either_false (clashes r b) (list_any (clashes r) bs) (either_false _ _ name id) (none_clashes r bs (λ c has. apart c (inr has)))
+    or_from (clashes r b) (list_any (clashes r) bs) (or_from _ _ name id) (none_clashes r bs (λ c has. apart c (inr has)))
 
 has_before : (before : List CodeRef) (r : CodeRef) (b : IndexRef) → Has (map ref_of_code (before ++ r ∷ [])) b → Has (map ref_of_code before) b ⊎ (ref_of_code r ≡ b)
 has_before [] r b (inl here) = inr here

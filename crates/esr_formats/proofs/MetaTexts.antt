@@ -9,6 +9,7 @@ use Rattle.esr_json.specs.PlainTexts.{parsed-compact_text}
 use Rattle.esr_json.specs.PlainValues.{IsUtf8-key_text, ItemsArePlain-map}
 use Rattle.esr_meta.specs.declared.global.GlobalMeta.{GlobalMeta}
 use Rattle.esr_names.specs.Indices.{ref_data, indices_data, IsRef, AreRefs}
+use Rattle.esr_root.specs.RootTexts.{index_name_utf8, snap_name_utf8}
 use Rattle.esr_meta.specs.Info.{Info, IsInfo, info_data, info_text, info_from}
 use Rattle.esr_meta.specs.Global.{IsGlobal, global_data, global_text, global_from}
 use Rattle.esr_meta.specs.Index.{Index, IsIndexMeta, index_meta_data, index_meta_text, index_meta_from}
@@ -20,7 +21,6 @@ use Rattle.esr_formats.specs.IndexMetas.{index_meta_of, code_index_meta, index_m
 use Rattle.esr_formats.specs.ReadBack.{ReadsBack-kind_by}
 use Rattle.esr_formats.proofs.ByKind.{text-kind_by}
 use Rattle.esr_formats.proofs.Inverses.{info_back}
-use Rattle.esr_formats.proofs.NameRules.{snap_name_utf8, index_name_utf8}
 
 pub refs_each : (before rs : List IndexRef) → AreRefs before rs → AllByRecursion IsRef rs
 refs_each before [] h = tt

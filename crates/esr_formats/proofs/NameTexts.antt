@@ -1,11 +1,12 @@
 -- The text of a name of the layout is UTF-8, and reads as the name.
-use Rattle.std.proofs.Common.{◌≡◌, ℕ, ◌<◌, ◌^◌, Bool, true, false, ◌&&◌, cond, List, ◌++◌, codes, Option, Some, None, option_map, IfSome, IsUtf8, bytes_eq, refl, sym, ap, subst, ◌∙◌, arith}
+use Rattle.std.proofs.Common.{◌≡◌, ℕ, ◌<◌, ◌^◌, Bool, true, false, ◌&&◌, List, ◌++◌, codes, Option, Some, None, option_map, IfSome, IsUtf8, bytes_eq, refl, sym, ap, subst, ◌∙◌, arith}
 use Rattle.std.specs.Prelude.{decimal, option_and_then}
 use Rattle.std.proofs.lemmas.Bool.{and_parts, ltb-true}
 use Rattle.std.proofs.lemmas.Slice.Eq.{bytes_eq-Decides}
 use Rattle.std.proofs.lemmas.Fmt.{IsAscii-decimal}
 use Rattle.std.proofs.lemmas.Str.{IsUtf8-append, IsUtf8-from_ascii}
 use Rattle.json.proofs.Printed.Utf8.{IsUtf8-are_ascii}
+use Rattle.std.proofs.lemmas.Option.{cond_some}
 use Rattle.esr_names.specs.declared.ids.Id.{Id}
 use Rattle.esr_names.specs.declared.blob.ShardId.{ShardId}
 use Rattle.esr_names.specs.declared.blob.BlobName.{BlobName as CodeName}
@@ -80,14 +81,10 @@ is_of_layout-says (code.TestNode v w) h = let p = and_parts _ _ h in (ltb-true _
 
 -- ---- reading
 
-kept_is : {A : Type 0} (b : Bool) (x y : A) → cond b (Some x) None ≡ Some y → (b ≡ true) × (x ≡ y)
-kept_is true x y h = (refl, cc)
-kept_is false x y h = absurd cc
-
 checked_is : (bytes : Bytes) (o : Option CodeName) (name : CodeName) → option_and_then (checked_name bytes) o ≡ Some name → HasIds name × IsName name × (bytes ≡ name_text name)
 checked_is bytes None name h = absurd cc
 checked_is bytes (Some n) name h =
-    let found = kept_is (is_of_layout n && bytes_eq (name_text n) bytes) n name h in
+    let found = cond_some (is_of_layout n && bytes_eq (name_text n) bytes) n name h in
     let tests = and_parts (is_of_layout n) (bytes_eq (name_text n) bytes) found.0 in
     let says = is_of_layout-says n tests.0 in
     (subst HasIds found.1 says.0, subst IsName found.1 says.1, sym ((bytes_eq-Decides (name_text n) bytes).0 tests.1) ∙ ap name_text found.1)

@@ -10,6 +10,7 @@ use Rattle.esr_json.specs.Plain.{IsPlain}
 use Rattle.esr_json.specs.PlainTexts.{parsed-compact_text}
 use Rattle.esr_json.specs.PlainValues.{IsUtf8-key_text, IsWhole-of_integer, ItemsArePlain-map}
 use Rattle.esr_names.specs.Indices.{id_data}
+use Rattle.esr_root.specs.RootTexts.{snap_name_utf8}
 use Rattle.esr_record.specs.declared.op.OpWork.{OpWork}
 use Rattle.esr_record.specs.declared.op.OpWork.TheVariants as works
 use Rattle.esr_record.specs.declared.op.RecordOp.{RecordOp}
@@ -23,7 +24,6 @@ use Rattle.esr_formats.specs.Clusters.{cluster_of, code_cluster, cluster_kind}
 use Rattle.esr_formats.specs.ReadBack.{ReadsBack-kind_by}
 use Rattle.esr_formats.proofs.ByKind.{text-kind_by}
 use Rattle.esr_formats.proofs.Inverses.{cluster_back}
-use Rattle.esr_formats.proofs.NameRules.{snap_name_utf8}
 use Rattle.esr_formats.proofs.MetaTexts.{indices_are_plain}
 
 -- an op that can be written

@@ -5,7 +5,7 @@ use Rattle.std.specs.List.{list_all}
 use Rattle.std.proofs.Common.{◌⊎◌, inl, inr, refl, sym, ap, ◌∙◌, subst, cond, eq-eqb, ⊎_elim}
 use Rattle.std.proofs.lemmas.Bool.{cases_Bool, true≢false, or_left, or_right}
 use Rattle.std.proofs.lemmas.List.Folds.{list_any-append}
-use Rattle.esr_model.specs.Lists.{Has-append}
+use Rattle.esr_model.specs.Lists.{Has-append, Has-mapped}
 use Rattle.serde_json.specs.Data.{Data}
 use Rattle.esr_names.specs.declared.ids.Id.{Id}
 use Rattle.esr_json.specs.declared.key.Key.TheVariants as keys
@@ -108,15 +108,10 @@ read_once bytes r h =
 
 -- ---- as the definitions say it
 
-mapped : (is : List CodeIndex) (x : RootIndex) → Has (map root_index_of is) x → (i : CodeIndex) × Has is i × (root_index_of i ≡ x)
-mapped [] x none = absurd none
-mapped (i ∷ is) x (inl here) = (i, inl refl, here)
-mapped (i ∷ is) x (inr later) = let found = mapped is x later in (found.0, inr found.1, found.2)
-
 one_each : (is : List CodeIndex) → AreOnce is → IsOneEach (map root_index_of is)
 one_each is once x y has_x has_y same =
-    let i = mapped is x has_x in
-    let j = mapped is y has_y in
+    let i = Has-mapped root_index_of is x has_x in
+    let j = Has-mapped root_index_of is y has_y in
     let number : i.0.id.number ≡ j.0.id.number = ap (λ (z : RootIndex). z.id) i.2 ∙ same ∙ sym (ap (λ (z : RootIndex). z.id) j.2) in
     let id : i.0.id ≡ j.0.id = ap (λ (n : ℕ). let u : Id = record { number = n } in u) number in
     sym i.2 ∙ ap root_index_of (once i.0 j.0 i.1 j.1 id) ∙ j.2

@@ -1,5 +1,5 @@
 -- The history of the desk under the lock begins as it did.
-use Rattle.std.proofs.Common.{◌≡◌, ℕ, ◌+◌, ◌-◌, Bool, false, List, [], ◌∷◌, ◌++◌, length, drop, sym, ap, ◌∙◌, subst, ⊎_elim, append-nil, append_assoc, length-append, arith}
+use Rattle.std.proofs.Common.{◌≡◌, ℕ, ◌+◌, ◌-◌, Bool, true, false, List, [], ◌∷◌, ◌++◌, length, drop, sym, ap, ◌∙◌, subst, ⊎_elim, append-nil, append_assoc, length-append, arith}
 use Rattle.std.proofs.Math.Seq.{drop-append_seam}
 use Rattle.esr_turns.specs.Histories.{StartsWith}
 use Rattle.esr_turns.specs.Tickets.{MayAdd}
@@ -13,7 +13,7 @@ use Rattle.esr_handle.specs.Turned.{Seen, Came}
 pub begins_came : (before : List Moment) (turn : Seen) (value : List Moment) (told : Bool) → Came before turn value told → StartsWith value before
 begins_came before turn value told came = ⊎_elim
     (λ (same : (value ≡ before ++ turn.seen) × (told ≡ false)). (turn.seen, same.0))
-    (λ (more : (m : Moment) × (value ≡ (before ++ turn.seen) ++ m ∷ []) × MayAdd ticket_of_moment ticket_given turn.seen turn.mine m). (turn.seen ++ more.0 ∷ [], more.1 ∙ append_assoc before turn.seen (more.0 ∷ [])))
+    (λ (more : (m : Moment) × (value ≡ (before ++ turn.seen) ++ m ∷ []) × MayAdd ticket_of_moment ticket_given turn.seen turn.mine m × (told ≡ true)). (turn.seen ++ more.0 ∷ [], more.1 ∙ append_assoc before turn.seen (more.0 ∷ [])))
     came
 
 -- ---- what the desk has called, as its whole history says

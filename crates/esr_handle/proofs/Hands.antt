@@ -1,5 +1,6 @@
 -- The steps of each hand in a turn: what they ask, and what they make of who makes them.
 use Rattle.std.proofs.Common.{◌≡◌, ℕ, true, false, List, ◌++◌, length, Option, Some, None, Result, Ok, Err, OnOk, refl, sym, subst}
+use Rattle.std.proofs.lemmas.Bool.{false≢true}
 use Rattle.esr_model.specs.Names.{BlobName}
 use Rattle.esr_model.specs.Values.{Has}
 use Rattle.esr_core.specs.World.{Reader}
@@ -24,7 +25,7 @@ use Rattle.esr_desk.specs.Restore.Conditions.{CanRead}
 use Rattle.esr_handle.specs.Owned.{given_by, calls_in}
 use Rattle.esr_handle.specs.Turned.{shared, Seen, Turned, Homed}
 use Rattle.esr_handle.proofs.Turns.{own_hand}
-use Rattle.esr_handle.proofs.Showing.{not_alone, shown_whole}
+use Rattle.esr_handle.proofs.Showing.{shown_whole}
 
 pub fetch_none : {F : Type 0} (o : Option F) → given_by (fetch_reply o) ≡ None
 fetch_none None = refl
@@ -32,7 +33,7 @@ fetch_none (Some f) = refl
 
 -- others make steps, so nothing is said of how long the history is
 pub few_shared : {X : Type 0} (result : Result X StepRefusal) (few : Type 0) → OnOk result (false ≡ true → few)
-few_shared (Ok x) few = λ e. absurd (not_alone e)
+few_shared (Ok x) few = λ e. absurd (false≢true e)
 few_shared (Err e) few = tt
 
 read_alike : (s : Start) (q : Reader) (name : BlobName) → CanRead (shared s) q name → CanRead s q name
@@ -68,16 +69,16 @@ module _ {s : Start} {before : List Moment} {pass turn : Seen} {value : List Mom
   fetch_on hands.Unit name mine h = subst (λ (own : Own). CanFetch own.ticket name) (same_own mine) h
   fetch_on hands.Delete name mine h = subst (λ (own : Own). CanFetchShard own.ticket name) (same_own mine) h
   fetch_on hands.Restore name mine h = subst (λ (own : Own). CanRead s own.reader name) (same_own mine) (read_alike s (reader_of s (before ++ pass.seen) who) name h)
-  fetch_on hands.Check name mine h = absurd (not_alone h.0.alone)
-  fetch_on hands.Verify name mine h = absurd (not_alone h.0.alone)
+  fetch_on hands.Check name mine h = absurd (false≢true h.0.alone)
+  fetch_on hands.Verify name mine h = absurd (false≢true h.0.alone)
 
   pub fetch_fresh : (hand : Hand) (name : BlobName) (step : Step) → IsMine hand (calls_in (length before) pass.seen pass.mine) who → MayFetch hand (shared s) (before ++ pass.seen) who name → IsFresh (shared s) (before ++ pass.seen) who step
       → IsFresh s value who step
   fetch_fresh hands.Unit name step mine may h = fresh_ticket mine step h
   fetch_fresh hands.Delete name step mine may h = fresh_ticket mine step h
   fetch_fresh hands.Restore name step mine may h = fresh_ticket mine step h
-  fetch_fresh hands.Check name step mine may h = absurd (not_alone may.0.alone)
-  fetch_fresh hands.Verify name step mine may h = absurd (not_alone may.0.alone)
+  fetch_fresh hands.Check name step mine may h = absurd (false≢true may.0.alone)
+  fetch_fresh hands.Verify name step mine may h = absurd (false≢true may.0.alone)
 
   -- what a fetch makes of who fetches
   pub fetch_own : (hand : Hand) (name : BlobName) (new : List Moment) (home : Seen) (P : Own → Own → Type 0) → IsMine hand (calls_in (length before) pass.seen pass.mine) who → MayFetch hand (shared s) (before ++ pass.seen) who name
@@ -86,8 +87,8 @@ module _ {s : Start} {before : List Moment} {pass turn : Seen} {value : List Mom
   fetch_own hands.Unit name new home P mine may homed p = own_new mine new home P homed p
   fetch_own hands.Delete name new home P mine may homed p = own_new mine new home P homed p
   fetch_own hands.Restore name new home P mine may homed p = own_new mine new home P homed p
-  fetch_own hands.Check name new home P mine may homed p = absurd (not_alone may.0.alone)
-  fetch_own hands.Verify name new home P mine may homed p = absurd (not_alone may.0.alone)
+  fetch_own hands.Check name new home P mine may homed p = absurd (false≢true may.0.alone)
+  fetch_own hands.Verify name new home P mine may homed p = absurd (false≢true may.0.alone)
 
   -- ---- a failure
 
@@ -95,8 +96,8 @@ module _ {s : Start} {before : List Moment} {pass turn : Seen} {value : List Mom
   fail_on hands.Unit mine h = subst (λ (own : Own). CanFail own.ticket) (same_own mine) h
   fail_on hands.Delete mine h = subst (λ (own : Own). CanFailDelete own.ticket) (same_own mine) h
   fail_on hands.Restore mine h = subst (λ (own : Own). own.reader.out ≡ true) (same_own mine) h
-  fail_on hands.Check mine h = absurd (not_alone h.0.alone)
-  fail_on hands.Verify mine h = absurd (not_alone h.0.alone)
+  fail_on hands.Check mine h = absurd (false≢true h.0.alone)
+  fail_on hands.Verify mine h = absurd (false≢true h.0.alone)
 
   pub fail_shown : {S F H T : Type 0} (hand : Hand) (e : Evidence S F H T) (why : Why) (b : By S F H T) → IsMine hand (calls_in (length before) pass.seen pass.mine) who → MayFail hand (shared s) (before ++ pass.seen) who
       → IsShown hand e (shared s) (before ++ pass.seen) who why b → IsShown hand e s value who why b
@@ -107,5 +108,5 @@ module _ {s : Start} {before : List Moment} {pass turn : Seen} {value : List Mom
   fail_own hands.Unit new home P mine may homed p = own_new mine new home P homed p
   fail_own hands.Delete new home P mine may homed p = own_new mine new home P homed p
   fail_own hands.Restore new home P mine may homed p = own_new mine new home P homed p
-  fail_own hands.Check new home P mine may homed p = absurd (not_alone may.0.alone)
-  fail_own hands.Verify new home P mine may homed p = absurd (not_alone may.0.alone)
+  fail_own hands.Check new home P mine may homed p = absurd (false≢true may.0.alone)
+  fail_own hands.Verify new home P mine may homed p = absurd (false≢true may.0.alone)

@@ -39,7 +39,8 @@ err_is (Ok x) refusal is = absurd is
 err_is (Err e) refusal is = ap Err is
 
 pub is_idle : {X : Type 0} {seat now : Option Seated} {old : Seated} (s : Start) (before : List Moment) (refusal : StepRefusal) (result : Result X StepRefusal)
-    → IsErrAnd result (λ e. e ≡ refusal) → or_no_seat seat ≡ old → now ≡ seat → Legal s (before ++ (or_no_seat seat).pass.seen) → (told_refusal refusal ≡ None) × Grounds (shared s) (before ++ (or_no_seat seat).pass.seen) 0 refusal → IsIdle s before old (or_no_seat now) result
+    → IsErrAnd result (λ e. e ≡ refusal) → or_no_seat seat ≡ old → now ≡ seat → Legal s (before ++ (or_no_seat seat).pass.seen) → (told_refusal refusal ≡ None) × Grounds (shared s) (before ++ (or_no_seat seat).pass.seen) 0 refusal
+    → IsIdle s before old (or_no_seat now) result
 is_idle s before refusal result is view kept legal grounds = record {
   refusal = refusal;
   is = err_is result refusal is;
@@ -98,7 +99,8 @@ module _ {X : Type 0} {s : Start} {before : List Moment} {old new : Seated} {res
   idle_tried who = at_old (λ (z : Seated) (r : Result X StepRefusal). ticket_of s (before ++ z.pass.seen) who ≡ tried_by r (ticket_of s (before ++ old.pass.seen) who)) (tried_idle X i.refusal (ticket_of s (before ++ old.pass.seen) who) i.untold)
 
   pub idle_begun : (who : ℕ) (name : BlobName) → ticket_of s (before ++ new.pass.seen) who ≡ begun_by name result (ticket_of s (before ++ old.pass.seen) who)
-  idle_begun who name = at_old (λ (z : Seated) (r : Result X StepRefusal). ticket_of s (before ++ z.pass.seen) who ≡ begun_by name r (ticket_of s (before ++ old.pass.seen) who)) (begun_idle X name i.refusal (ticket_of s (before ++ old.pass.seen) who) i.untold)
+  idle_begun who name =
+      at_old (λ (z : Seated) (r : Result X StepRefusal). ticket_of s (before ++ z.pass.seen) who ≡ begun_by name r (ticket_of s (before ++ old.pass.seen) who)) (begun_idle X name i.refusal (ticket_of s (before ++ old.pass.seen) who) i.untold)
 
   pub idle_left : (who : ℕ) (gone : Ticket → Ticket → Type 0) → LeftBy (gone (ticket_of s (before ++ old.pass.seen) who)) result (ticket_of s (before ++ old.pass.seen) who) (ticket_of s (before ++ new.pass.seen) who)
   idle_left who gone = at_old (λ (z : Seated) (r : Result X StepRefusal). LeftBy (gone (ticket_of s (before ++ old.pass.seen) who)) r (ticket_of s (before ++ old.pass.seen) who) (ticket_of s (before ++ z.pass.seen) who))

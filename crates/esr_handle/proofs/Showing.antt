@@ -1,5 +1,6 @@
 -- What shows a failure to a worker shows it to the desk under the lock.
-use Rattle.std.proofs.Common.{◌≡◌, ℕ, true, false, List, [], inl, inr, ⊎_elim}
+use Rattle.std.proofs.Common.{◌≡◌, ℕ, List, [], inl, inr, ⊎_elim}
+use Rattle.std.proofs.lemmas.Bool.{false≢true}
 use Rattle.esr_model.specs.Names.{BlobName}
 use Rattle.esr_model.specs.Values.{Bytes, FileEntry}
 use Rattle.esr_core.specs.World.{Reader}
@@ -22,10 +23,6 @@ use Rattle.esr_desk.specs.Delete.Shown.{IsDeleteShown}
 use Rattle.esr_desk.specs.Restore.First.{AreFirst, HasFirst}
 use Rattle.esr_desk.specs.Restore.Shown.{HasReadFile, IsRestoreShown}
 use Rattle.esr_handle.specs.Turned.{shared}
-
--- where others make steps nobody is alone
-pub not_alone : false ≡ true → ⊥
-not_alone e = cc
 
 module _ (s : Start) (q : Reader) where
   first_alike : (entries : List FileEntry) → AreFirst (shared s) q entries → AreFirst s q entries
@@ -108,5 +105,5 @@ pub shown_whole : {S F H T : Type 0} (hand : Hand) (e : Evidence S F H T) (s : S
 shown_whole hands.Unit e s calls old value who why b mine may w h = unit_alike e s value who why b (shown_on hands.Unit e (shared s) calls old value who why b mine may w h)
 shown_whole hands.Delete e s calls old value who why b mine may w h = delete_alike e s value who why b (shown_on hands.Delete e (shared s) calls old value who why b mine may w h)
 shown_whole hands.Restore e s calls old value who why b mine may w h = restore_alike e s value who why b (shown_on hands.Restore e (shared s) calls old value who why b mine may w h)
-shown_whole hands.Check e s calls old value who why b mine may w h = absurd (not_alone may.0.alone)
-shown_whole hands.Verify e s calls old value who why b mine may w h = absurd (not_alone may.0.alone)
+shown_whole hands.Check e s calls old value who why b mine may w h = absurd (false≢true may.0.alone)
+shown_whole hands.Verify e s calls old value who why b mine may w h = absurd (false≢true may.0.alone)

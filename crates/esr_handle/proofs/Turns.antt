@@ -2,6 +2,7 @@
 use Rattle.std.proofs.Common.{◌≡◌, ◌≢◌, ℕ, zero, suc, ◌+◌, ◌-◌, ◌<◌, ◌≤◌, ◌^◌, lt-ltb, le-ltb, cond, List, [], ◌∷◌, ◌++◌, length, drop, drop_at, Bool, true, false, not, Option, Some, None, Result, Ok, Err, IfOk, IfSome, refl, sym, ap, ◌∙◌, subst, inl, inr, ⊎_elim, length-append, append_assoc, append-nil, arith}
 use Rattle.std.proofs.lemmas.List.{append_cancel_left}
 use Rattle.std.specs.FinMap as fin
+use Rattle.std.proofs.lemmas.Bool.{not-false}
 use Rattle.esr_model.specs.Lists.{Has-right}
 use Rattle.esr_model.specs.Values.{Has, Formats}
 use Rattle.esr_model.specs.Image.{Image}
@@ -27,6 +28,7 @@ use Rattle.esr_desk.specs.Numbered.{Numbered}
 use Rattle.esr_desk.specs.Evidence.{NeverFailed}
 use Rattle.esr_desk.specs.Calls.{Call, call_of, call_at, calls_at, with_call, HasTaken, IsMine, called, called_by}
 use Rattle.esr_desk.specs.Outcome.{Waited, Stepped, Refusing, IsOfOp, Grounds, Outcome, take_reply}
+use Rattle.esr_desk.specs.Made.{world_more}
 use Rattle.esr_handle.specs.Owned.{ticket_of_moment, given_by, ticket_given, IsOwn, AreBelow, calls_in}
 use Rattle.esr_handle.specs.Turned.{shared, Seen, IsFit, IsSeat, IsLent, Turned, was_told, Came, Homed}
 use Rattle.esr_handle.proofs.Owned.{none_some, some_same, was_given, ticket_is, own_longer, none_own, own_ticket, taken_among, calls_longer, calls_more, below_longer, below_last}
@@ -42,10 +44,6 @@ abbrev pub AreNext : Type 0
 AreNext = (s : Start) (log : List Moment) (m : Moment) (ticket op : ℕ) (unit : Given) → Legal s (log ++ m ∷ []) → m.entry.reply ≡ Gave ticket op unit → ticket ≡ (world_of s log).next_ticket
 
 -- ---- others' steps leave an own ticket
-
-world_more : (f : Formats) (w : World) (old more : List Moment) → world_from f w (old ++ more) ≡ world_from f (world_from f w old) more
-world_more f w [] more = refl
-world_more f w (m ∷ old) more = world_more f (after f w m) old more
 
 pub record Left (w new : World) (who : ℕ) : Type 0 where
   pub tickets : fin.get new.tickets who ≡ fin.get w.tickets who
@@ -186,10 +184,6 @@ gained_one log m =
     let longer = length-append log (m ∷ []) in
     ap (λ (b : Bool). cond b (length log ∷ []) []) (lt-ltb (length log) (length (log ++ m ∷ [])) (omega arith))
 
-not_over : (told : Bool) → not told ≡ false → told ≡ true
-not_over true going = refl
-not_over false going = absurd cc
-
 -- what came since, by what the whole history is
 module _ (before : List Moment) (turn : Seen) (value : List Moment) where
   rest_same : value ≡ before ++ turn.seen → drop (length before) value ≡ turn.seen
@@ -201,13 +195,13 @@ module _ (before : List Moment) (turn : Seen) (value : List Moment) where
   pub has_grown : (told : Bool) → Came before turn value told → Grows turn.seen (drop (length before) value)
   has_grown told came = ⊎_elim
       (λ (same : (value ≡ before ++ turn.seen) × (told ≡ false)). inl (rest_same same.0))
-      (λ (more : (m : Moment) × (value ≡ (before ++ turn.seen) ++ m ∷ []) × MayAdd ticket_of_moment ticket_given turn.seen turn.mine m). inr (more.0, rest_more more.0 more.1))
+      (λ (more : (m : Moment) × (value ≡ (before ++ turn.seen) ++ m ∷ []) × MayAdd ticket_of_moment ticket_given turn.seen turn.mine m × (told ≡ true)). inr (more.0, rest_more more.0 more.1))
       came
 
   pub may_come : (told : Bool) → Came before turn value told → (e : Moment) → drop (length before) value ≡ turn.seen ++ e ∷ [] → MayAdd ticket_of_moment ticket_given turn.seen turn.mine e
   may_come told came e is = ⊎_elim
       (λ (same : (value ≡ before ++ turn.seen) × (told ≡ false)). absurd (not_longer turn.seen e (sym (rest_same same.0) ∙ is)))
-      (λ (more : (m : Moment) × (value ≡ (before ++ turn.seen) ++ m ∷ []) × MayAdd ticket_of_moment ticket_given turn.seen turn.mine m).
+      (λ (more : (m : Moment) × (value ≡ (before ++ turn.seen) ++ m ∷ []) × MayAdd ticket_of_moment ticket_given turn.seen turn.mine m × (told ≡ true)).
       subst (MayAdd ticket_of_moment ticket_given turn.seen turn.mine) (first_same more.0 e (append_cancel_left turn.seen (more.0 ∷ []) (e ∷ []) (sym (rest_more more.0 more.1) ∙ is))) more.2)
       came
 
@@ -221,7 +215,7 @@ module _ (before : List Moment) (turn : Seen) (value : List Moment) where
     home_whole : (told : Bool) → Came before turn value told → before ++ pass.seen ≡ value
     home_whole told came = ⊎_elim
         (λ (same : (value ≡ before ++ turn.seen) × (told ≡ false)). ap (λ (log : List Moment). before ++ log) (seen ∙ rest_same same.0) ∙ sym same.0)
-        (λ (more : (m : Moment) × (value ≡ (before ++ turn.seen) ++ m ∷ []) × MayAdd ticket_of_moment ticket_given turn.seen turn.mine m).
+        (λ (more : (m : Moment) × (value ≡ (before ++ turn.seen) ++ m ∷ []) × MayAdd ticket_of_moment ticket_given turn.seen turn.mine m × (told ≡ true)).
         ap (λ (log : List Moment). before ++ log) (seen ∙ rest_more more.0 more.1) ∙ sym (append_assoc before turn.seen (more.0 ∷ [])) ∙ sym more.1)
         came
 
@@ -240,7 +234,7 @@ module _ (before : List Moment) (turn : Seen) (value : List Moment) where
     home_below told came = ⊎_elim
         (λ (same : (value ≡ before ++ turn.seen) × (told ≡ false)).
         subst (λ (log : List Moment). AreBelow (length log) pass.mine) (sym (seen ∙ rest_same same.0)) (subst (AreBelow (length turn.seen)) (sym (mine_same same.0)) below))
-        (λ (more : (m : Moment) × (value ≡ (before ++ turn.seen) ++ m ∷ []) × MayAdd ticket_of_moment ticket_given turn.seen turn.mine m).
+        (λ (more : (m : Moment) × (value ≡ (before ++ turn.seen) ++ m ∷ []) × MayAdd ticket_of_moment ticket_given turn.seen turn.mine m × (told ≡ true)).
         subst (λ (log : List Moment). AreBelow (length log) pass.mine) (sym (seen ∙ rest_more more.0 more.1))
         (subst (AreBelow (length (turn.seen ++ more.0 ∷ []))) (sym (mine_more more.0 more.1))
         (subst (λ (n : ℕ). AreBelow n (turn.mine ++ length turn.seen ∷ [])) (sym (length-append turn.seen (more.0 ∷ []))) (below_last (length turn.seen) turn.mine below))))
@@ -249,7 +243,8 @@ module _ (before : List Moment) (turn : Seen) (value : List Moment) where
     home_used : (told : Bool) → Came before turn value told → told ≡ true → length pass.seen ≡ length turn.seen + 1
     home_used told came is = ⊎_elim
         (λ (same : (value ≡ before ++ turn.seen) × (told ≡ false)). absurd (let no_entry : told ≡ false = same.1 in cc))
-        (λ (more : (m : Moment) × (value ≡ (before ++ turn.seen) ++ m ∷ []) × MayAdd ticket_of_moment ticket_given turn.seen turn.mine m). ap length (seen ∙ rest_more more.0 more.1) ∙ length-append turn.seen (more.0 ∷ []))
+        (λ (more : (m : Moment) × (value ≡ (before ++ turn.seen) ++ m ∷ []) × MayAdd ticket_of_moment ticket_given turn.seen turn.mine m × (told ≡ true)).
+        ap length (seen ∙ rest_more more.0 more.1) ∙ length-append turn.seen (more.0 ∷ []))
         came
 
     pub is_seated : (s : Start) (lock own : LockId) (total : ℕ) (told : Bool) → IsLent s lock total own turn → Came before turn value told → pass.lock ≡ own → (pass.left ≡ turn.left) × (pass.used ≡ turn.used) → Legal s value
@@ -260,7 +255,8 @@ module _ (before : List Moment) (turn : Seen) (value : List Moment) where
       lock_is = lent.lock_is;
       turns = (let left : pass.left ≡ turn.left = turns.0 in let used : pass.used ≡ turn.used = turns.1 in let all : turn.left + turn.used ≡ total = lent.turns in omega (arith, left, used, all));
       much = lent.much;
-      used = λ going. (let is : told ≡ true = not_over told going in let longer = home_used told came is in let most : turn.used ≤ length turn.seen + 1 = lent.used in let used : pass.used ≡ turn.used = turns.1 in omega (arith, longer, most, used));
+      used = λ going.
+          (let is : told ≡ true = not-false told going in let longer = home_used told came is in let most : turn.used ≤ length turn.seen + 1 = lent.used in let used : pass.used ≡ turn.used = turns.1 in omega (arith, longer, most, used));
       fit = record {
         below = home_below told came;
         legal = subst (Legal s) (sym (home_whole told came)) legal;
@@ -306,18 +302,19 @@ module _ (s : Start) (before : List Moment) (pass turn : Seen) (value : List Mom
 
   -- ---- what comes
 
-  came_by : (new : List Moment) (who : ℕ) (step : Step) (reply : Reply) (told : Bool) → (1 ≤ who → IsOwn pass.seen pass.mine who) → ((ticket i : ℕ) → given_by reply ≡ Some ticket → said ticket_given turn.seen i ≢ Some ticket)
-      → Stepped s value new who step reply → Came before turn new told
-  came_by new who step reply told own fresh h =
+  came_by : (new : List Moment) (who : ℕ) (step : Step) (reply : Reply) (told : Bool) → told ≡ true → (1 ≤ who → IsOwn pass.seen pass.mine who)
+      → ((ticket i : ℕ) → given_by reply ≡ Some ticket → said ticket_given turn.seen i ≢ Some ticket) → Stepped s value new who step reply → Came before turn new told
+  came_by new who step reply told is own fresh h =
       let entry = entered s value new who step reply t.alone h in
       let m : Moment = record { entry = record { who = who; step = step; reply = reply }; image = entry.image } in
       inr (
         m,
         entry.is ∙ ap (λ (log : List Moment). log ++ m ∷ []) t.whole,
         (
-          (λ ticket is. let of = ticket_is who ticket is in subst (IsOwn turn.seen turn.mine) of.1 (t.own who (own of.0))),
-          λ ticket gives i is. fresh ticket i gives is,
+          (λ ticket same. let of = ticket_is who ticket same in subst (IsOwn turn.seen turn.mine) of.1 (t.own who (own of.0))),
+          λ ticket gives i was. fresh ticket i gives was,
         ),
+        is,
       )
 
   gives_none : (reply : Reply) → given_by reply ≡ None → (ticket i : ℕ) → given_by reply ≡ Some ticket → said ticket_given turn.seen i ≢ Some ticket
@@ -329,10 +326,10 @@ module _ (s : Start) (before : List Moment) (pass turn : Seen) (value : List Mom
   pub came : {X : Type 0} (new : List Moment) (who : ℕ) (step : Step) (ok : X → Reply) (result : Result X StepRefusal) (told : Bool) → (1 ≤ who → IsOwn pass.seen pass.mine who) → ((x : X) → given_by (ok x) ≡ None)
       → told ≡ was_told result → Outcome s value new who step ok result
       → Came before turn new told
-  came new who step ok (Ok x) told own none is h = came_by new who step (ok x) told own (gives_none (ok x) (none x)) h
+  came new who step ok (Ok x) told own none is h = came_by new who step (ok x) told is own (gives_none (ok x) (none x)) h
   came new who step ok (Err steps.Memory) told own none is h = came_not new who told is h.0
   came new who step ok (Err steps.TurnsSpent) told own none is h = came_not new who told is h.0
-  came new who step ok (Err (steps.Refused refusal)) told own none is h = came_by new who step (Refused (refusal_of refusal)) told own (gives_none (Refused (refusal_of refusal)) refl) h.0
+  came new who step ok (Err (steps.Refused refusal)) told own none is h = came_by new who step (Refused (refusal_of refusal)) told is own (gives_none (Refused (refusal_of refusal)) refl) h.0
 
   -- a new ticket is none that was given
   next_fresh : AreNext → (new : List Moment) (ticket op : ℕ) (unit : Given) → Stepped s value new 0 TakeStep (Gave ticket op unit) → (k i : ℕ) → given_by (Gave ticket op unit) ≡ Some k → said ticket_given turn.seen i ≢ Some k
@@ -345,11 +342,11 @@ module _ (s : Start) (before : List Moment) (pass turn : Seen) (value : List Mom
       omega (arith, number, same, less)
 
   pub came_take : AreNext → (new : List Moment) (result : Result (Option Taken) StepRefusal) (told : Bool) → told ≡ was_told result → Outcome s value new 0 TakeStep take_reply result → Came before turn new told
-  came_take next new (Ok None) told is h = came_by new 0 TakeStep NothingReady told no_ticket (gives_none NothingReady refl) h
-  came_take next new (Ok (Some u)) told is h = came_by new 0 TakeStep (Gave u.ready.ticket u.ready.op (given_of u.ready)) told no_ticket (next_fresh next new u.ready.ticket u.ready.op (given_of u.ready) h) h
+  came_take next new (Ok None) told is h = came_by new 0 TakeStep NothingReady told is no_ticket (gives_none NothingReady refl) h
+  came_take next new (Ok (Some u)) told is h = came_by new 0 TakeStep (Gave u.ready.ticket u.ready.op (given_of u.ready)) told is no_ticket (next_fresh next new u.ready.ticket u.ready.op (given_of u.ready) h) h
   came_take next new (Err steps.Memory) told is h = came_not new 0 told is h.0
   came_take next new (Err steps.TurnsSpent) told is h = came_not new 0 told is h.0
-  came_take next new (Err (steps.Refused refusal)) told is h = came_by new 0 TakeStep (Refused (refusal_of refusal)) told no_ticket (gives_none (Refused (refusal_of refusal)) refl) h.0
+  came_take next new (Err (steps.Refused refusal)) told is h = came_by new 0 TakeStep (Refused (refusal_of refusal)) told is no_ticket (gives_none (Refused (refusal_of refusal)) refl) h.0
 
   -- ---- what the worker learns
 

@@ -70,11 +70,11 @@ was_told (Err steps.Memory) = false
 was_told (Err steps.TurnsSpent) = false
 was_told (Err (steps.Refused refusal)) = true
 
--- Where a turn comes to its end the history has an entry more, which may come, or is as it was.
+-- Where a turn comes to its end the history has an entry more, which may come and tells the answer, or is as it was and doesn't tell it.
 abbrev pub Came : List Moment → Seen → List Moment → Bool → Type 0
 Came before turn value is_told =
     ((value ≡ before ++ turn.seen) × (is_told ≡ false))
-    ⊎ ((m : Moment) × (value ≡ (before ++ turn.seen) ++ m ∷ []) × MayAdd ticket_of_moment ticket_given turn.seen turn.mine m)
+    ⊎ ((m : Moment) × (value ≡ (before ++ turn.seen) ++ m ∷ []) × MayAdd ticket_of_moment ticket_given turn.seen turn.mine m × (is_told ≡ true))
 
 -- what the pass has seen then is the whole history, and the entry that came is its own
 pub record Homed (before : List Moment) (turn : Seen) (value : List Moment) (pass : Seen) : Type 0 where
@@ -96,3 +96,9 @@ no_seat = record { pass = record { lock = no_lock; seen = []; mine = []; left = 
 abbrev pub or_no_seat : Option Seated → Seated
 or_no_seat None = no_seat
 or_no_seat (Some s) = s
+
+-- why a seat takes no turn: it is over, or no turn is left
+abbrev pub RefusesTurn : Seated → StepRefusal → Type 0
+RefusesTurn seat steps.Memory = seat.is_over ≡ true
+RefusesTurn seat steps.TurnsSpent = (seat.is_over ≡ false) × (seat.pass.left ≡ 0)
+RefusesTurn seat (steps.Refused refusal) = ⊥

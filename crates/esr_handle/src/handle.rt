@@ -15,10 +15,10 @@ ghost use Rattle.esr_handle.specs.Turned.{shared, was_told, IsFit};
 
 use crate::seat::{Place, Seat, TurnEnd, is_told};
 use crate::{Share, Since, Sitting};
-use esr_depot::Listing;
+use esr_depot::{Commit, Listing};
 use esr_desk::{
-    Attempt, Basis, Desk, Done, Failure, Named, NewBlob, Planned, Put, RestoreEnd, Sole, Unended,
-    Unit, Who, each_ticket_is_given_once,
+    Attempt, Basis, Desk, Failure, Named, NewBlob, Planned, RestoreEnd, Sole, Unended, Unit, Who,
+    each_ticket_is_given_once,
 };
 use esr_names::{BlobName, Id};
 use esr_results::ShardResult;
@@ -136,7 +136,7 @@ impl<'a, Q: Sole, B: Since, W: Share, R: Wait + Sync> Desk for Handle<'a, Q, B, 
         &mut self,
         alloc: Global,
         failure: Failure<Q::Stage, Q::Fetch, Q::Shard, Q::Target>,
-    ) -> Done
+    ) -> Attempt
         requires mine { IsMine failure.who.hand (calls_in (length B.before) self.old.pass.seen self.old.pass.mine) failure.who.number }
         requires may { MayFail failure.who.hand (shared Q.start) (B.before ++ self.old.pass.seen) failure.who.number }
         requires shown { IsShown failure.who.hand (evidence Q.Stage.faults Q.Fetch.faults Q.Shard.faults Q.Target.faults Q.Shard.told Q.Target.told)
@@ -179,7 +179,13 @@ impl<'a, Q: Sole, B: Since, W: Share, R: Wait + Sync> Desk for Handle<'a, Q, B, 
         answer
     }
 
-    fn commit(&mut self, alloc: Global, ticket: u64, name: BlobName, stage: Self::Stage) -> Put {
+    fn commit(
+        &mut self,
+        alloc: Global,
+        ticket: u64,
+        name: BlobName,
+        stage: Self::Stage,
+    ) -> Attempt<Commit> {
         let mut lent = self.seat.begin_turn()?;
         let answer = lent.desk.commit(alloc, ticket, name, stage);
         let is_told = is_told(&answer);
@@ -188,7 +194,13 @@ impl<'a, Q: Sole, B: Since, W: Share, R: Wait + Sync> Desk for Handle<'a, Q, B, 
         answer
     }
 
-    fn latest(&mut self, alloc: Global, ticket: u64, name: BlobName, stage: Self::Stage) -> Done {
+    fn latest(
+        &mut self,
+        alloc: Global,
+        ticket: u64,
+        name: BlobName,
+        stage: Self::Stage,
+    ) -> Attempt {
         let mut lent = self.seat.begin_turn()?;
         let answer = lent.desk.latest(alloc, ticket, name, stage);
         let is_told = is_told(&answer);
@@ -206,7 +218,7 @@ impl<'a, Q: Sole, B: Since, W: Share, R: Wait + Sync> Desk for Handle<'a, Q, B, 
         answer
     }
 
-    fn settle(&mut self, alloc: Global, ticket: u64, root: &RootData) -> Done {
+    fn settle(&mut self, alloc: Global, ticket: u64, root: &RootData) -> Attempt {
         let mut lent = self.seat.begin_turn()?;
         let answer = lent.desk.settle(alloc, ticket, root);
         let is_told = is_told(&answer);
@@ -233,7 +245,7 @@ impl<'a, Q: Sole, B: Since, W: Share, R: Wait + Sync> Desk for Handle<'a, Q, B, 
         answer
     }
 
-    fn settle_delete(&mut self, alloc: Global, ticket: u64, root: &RootData) -> Done {
+    fn settle_delete(&mut self, alloc: Global, ticket: u64, root: &RootData) -> Attempt {
         let mut lent = self.seat.begin_turn()?;
         let answer = lent.desk.settle_delete(alloc, ticket, root);
         let is_told = is_told(&answer);
@@ -242,7 +254,7 @@ impl<'a, Q: Sole, B: Since, W: Share, R: Wait + Sync> Desk for Handle<'a, Q, B, 
         answer
     }
 
-    fn remove(&mut self, alloc: Global, ticket: u64, names: &Seq<BlobName>) -> Done {
+    fn remove(&mut self, alloc: Global, ticket: u64, names: &Seq<BlobName>) -> Attempt {
         let mut lent = self.seat.begin_turn()?;
         let answer = lent.desk.remove(alloc, ticket, names);
         let is_told = is_told(&answer);
@@ -251,7 +263,7 @@ impl<'a, Q: Sole, B: Since, W: Share, R: Wait + Sync> Desk for Handle<'a, Q, B, 
         answer
     }
 
-    fn end_shard(&mut self, alloc: Global, ticket: u64, outcome: &ShardResult) -> Done {
+    fn end_shard(&mut self, alloc: Global, ticket: u64, outcome: &ShardResult) -> Attempt {
         let mut lent = self.seat.begin_turn()?;
         let answer = lent.desk.end_shard(alloc, ticket, outcome);
         let is_told = is_told(&answer);
@@ -290,7 +302,7 @@ impl<'a, Q: Sole, B: Since, W: Share, R: Wait + Sync> Desk for Handle<'a, Q, B, 
         answer
     }
 
-    fn end_delete(&mut self, alloc: Global, ticket: u64) -> Done {
+    fn end_delete(&mut self, alloc: Global, ticket: u64) -> Attempt {
         let mut lent = self.seat.begin_turn()?;
         let answer = lent.desk.end_delete(alloc, ticket);
         let is_told = is_told(&answer);
@@ -299,7 +311,7 @@ impl<'a, Q: Sole, B: Since, W: Share, R: Wait + Sync> Desk for Handle<'a, Q, B, 
         answer
     }
 
-    fn end_drop(&mut self, alloc: Global, ticket: u64) -> Done {
+    fn end_drop(&mut self, alloc: Global, ticket: u64) -> Attempt {
         let mut lent = self.seat.begin_turn()?;
         let answer = lent.desk.end_drop(alloc, ticket);
         let is_told = is_told(&answer);
@@ -308,7 +320,7 @@ impl<'a, Q: Sole, B: Since, W: Share, R: Wait + Sync> Desk for Handle<'a, Q, B, 
         answer
     }
 
-    fn end_cleanup(&mut self, alloc: Global, ticket: u64) -> Done {
+    fn end_cleanup(&mut self, alloc: Global, ticket: u64) -> Attempt {
         let mut lent = self.seat.begin_turn()?;
         let answer = lent.desk.end_cleanup(alloc, ticket);
         let is_told = is_told(&answer);
@@ -317,7 +329,7 @@ impl<'a, Q: Sole, B: Since, W: Share, R: Wait + Sync> Desk for Handle<'a, Q, B, 
         answer
     }
 
-    fn finish(&mut self, alloc: Global, ticket: u64) -> Done {
+    fn finish(&mut self, alloc: Global, ticket: u64) -> Attempt {
         let mut lent = self.seat.begin_turn()?;
         let answer = lent.desk.finish(alloc, ticket);
         let is_told = is_told(&answer);
@@ -327,7 +339,7 @@ impl<'a, Q: Sole, B: Since, W: Share, R: Wait + Sync> Desk for Handle<'a, Q, B, 
     }
 }
 
-// Whether the history tells the end of a restore.
+/// Whether the history tells the end of a restore.
 fn is_end_told<T: Drop>(answer: &Result<(), Unended<T>>) -> bool
     ensures { result ≡ was_told (refused_of answer.now) }
 {

@@ -3,7 +3,7 @@ ghost use Rattle.std.specs.Prelude.{◌≡◌, ◌+◌, ◌<◌, ◌≤◌, ◌^
 ghost use Rattle.esr_desk.specs.Outcome.{Grounds};
 ghost use Rattle.esr_desk.specs.Refusals.{told_refusal};
 ghost use Rattle.esr_desk.specs.Start.{Legal};
-ghost use Rattle.esr_handle.specs.Turned.{was_told, shared, or_no_seat, IsFit, IsLent, Turned, Came, Homed};
+ghost use Rattle.esr_handle.specs.Turned.{was_told, shared, or_no_seat, IsFit, IsLent, Turned, Came, Homed, RefusesTurn};
 
 use crate::{Share, Since, Sitting};
 use esr_desk::{Desk, Sole, StepRefusal, each_ticket_is_given_once};
@@ -140,7 +140,7 @@ impl<'a, Q: Sole, B: Since, W: Share, R: Wait> Turns for Seat<'a, Q, B, W, R> {
     }
 }
 
-/// The end of a turn: at most one entry came, and where none did, `is_told` says so.
+/// The end of a turn: at most one entry came, and `is_told` says whether one did.
 pub(crate) struct TurnEnd<'a, Q: Sole, B: Since, W: Share, R> {
     pub(crate) lent: Lent<'a, Q, B, W, R>,
     pub(crate) is_told: bool,
@@ -234,6 +234,7 @@ impl<'a, Q: Sole, B: Since, W: Share, R: Wait> Place for Option<Seat<'a, Q, B, W
         ensures kept { OnErr result (self.new ≡ self.old) }
         ensures legal { OnErr result (Legal Q.start (B.before ++ (or_no_seat self.old).pass.seen)) }
         ensures grounds { IfErr result (λ e. (told_refusal e ≡ None) × Grounds (shared Q.start) (B.before ++ (or_no_seat self.old).pass.seen) 0 e) }
+        ensures why { IfErr result (λ e. RefusesTurn (or_no_seat self.old) e) }
     {
         let seat = self.take().unwrap();
         if seat.is_over() {
@@ -250,6 +251,7 @@ impl<'a, Q: Sole, B: Since, W: Share, R: Wait> Place for Option<Seat<'a, Q, B, W
     fn end_turn(&mut self, end: TurnEnd<'a, Q, B, W, R>)
         ensures full { is_some self.new ≡ true }
         ensures pass { Homed B.before end.entry.0 end.entry.1 (or_no_seat self.new).pass }
+        ensures over { (or_no_seat self.new).is_over ≡ not end.entry.2 }
     {
         drop(self.replace(end.home()));
     }

@@ -1,5 +1,6 @@
 pub mod Steps
 pub mod Access
+pub mod Builder
 pub mod Plain
 pub mod Named
 pub mod Shallow

@@ -1,43 +1,19 @@
 -- Which values are plain, by how they are made.
-use Rattle.std.proofs.Common.{◌≡◌, ℕ, ℤ, ◌≤◌, ◌^◌, ◌-◌, ◌≤ℤ◌, false, IsUtf8, List, [], ◌∷◌, map, pos, negsuc, refl, sym, ap, ◌∙◌, subst, arith}
+use Rattle.std.proofs.Common.{◌≡◌, ℕ, ℤ, ◌≤◌, ◌^◌, ◌-◌, ◌≤ℤ◌, IsUtf8, List, [], ◌∷◌, map, pos, negsuc, refl, sym, ap, ◌∙◌, subst, arith}
 use Rattle.std.specs.List.{AllByRecursion}
 use Rattle.std.specs.Ordering.{nat_cmp}
 use Rattle.std.specs.Cmp.Lexicographic.{slice_cmp}
 use Rattle.std.specs.declared.cmp.Ordering.TheVariants.{Greater}
 use Rattle.json.proofs.Printed.Utf8.{IsUtf8-are_ascii}
-use Rattle.serde_json.specs.Data.{unsigned, negative, float, Data, null, boolean, number, string, array, object, Items, no_items, item, Members, no_members, member, depth}
+use Rattle.serde_json.specs.Data.{Data, Members, no_members, member}
 use Rattle.serde_json.specs.Find.{of_integer}
 use Rattle.serde_json.specs.View.{items_of}
-use Rattle.serde_json.specs.Written.{has_float, items_have_float, members_have_float}
 use Rattle.esr_json.specs.declared.key.Key.TheVariants as keys
 use Rattle.esr_json.specs.Access.{key_text, members_list}
 use Rattle.esr_json.specs.Named.{with_members, Rising}
 use Rattle.esr_json.specs.Plain.{IsWhole, StandsBefore, IsPlain, ItemsArePlain, MembersArePlain}
-use Rattle.esr_json.specs.Shallow.{IsShallow}
 use Rattle.esr_json.specs.declared.key.Key.{Key}
 use Rattle.esr_json.specs.Members.{members_list-with_members}
-
-mutual
-  pub has_float-IsPlain : (d : Data) → IsPlain d → has_float d ≡ false
-  has_float-IsPlain null h = refl
-  has_float-IsPlain (boolean b) h = refl
-  has_float-IsPlain (number (unsigned n)) h = refl
-  has_float-IsPlain (number (negative z)) h = refl
-  has_float-IsPlain (number (float x)) h = absurd h
-  has_float-IsPlain (string s) h = refl
-  has_float-IsPlain (array ds) h = items_have_float-plain ds h
-  has_float-IsPlain (object ms) h = members_have_float-plain ms h
-
-  items_have_float-plain : (ds : Items) → ItemsArePlain ds → items_have_float ds ≡ false
-  items_have_float-plain no_items h = refl
-  items_have_float-plain (item d ds) h = rw (has_float-IsPlain d h.0) (items_have_float-plain ds h.1)
-
-  members_have_float-plain : (ms : Members) → MembersArePlain ms → members_have_float ms ≡ false
-  members_have_float-plain no_members h = refl
-  members_have_float-plain (member k d ms) h = rw (has_float-IsPlain d h.1) (members_have_float-plain ms h.3)
-
-pub IsShallow-IsPlain : (k : ℕ) (d : Data) → IsPlain d → depth d ≤ k → IsShallow k d
-IsShallow-IsPlain k d h low = (has_float-IsPlain d h, low)
 
 pub IsWhole-of_integer : (z : ℤ) → negsuc (2 ^ 63 - 1) ≤ℤ z → z ≤ℤ pos (2 ^ 64 - 1) → IsWhole (of_integer z)
 IsWhole-of_integer (pos n) low high = grind arith

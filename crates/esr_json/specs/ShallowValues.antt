@@ -5,18 +5,12 @@ use Rattle.std.specs.Cmp.Lexicographic.{slice_cmp}
 use Rattle.std.specs.declared.cmp.Ordering.{Ordering}
 use Rattle.std.specs.declared.cmp.Ordering.TheVariants.{Less, Equal, Greater}
 use Rattle.std.proofs.lemmas.Bool.{or_parts}
-use Rattle.serde_json.specs.Data.{Data, string, number, unsigned, array, object, Members, no_members, member, put, items_depth}
+use Rattle.serde_json.specs.Data.{Data, number, array, Members, no_members, member, put, items_depth}
 use Rattle.serde_json.specs.Find.{of_integer}
 use Rattle.serde_json.specs.View.{items_of}
 use Rattle.serde_json.specs.Written.{has_float, items_have_float, members_have_float}
 use Rattle.esr_json.specs.Named.{with_members}
 use Rattle.esr_json.specs.Shallow.{IsShallow, AreShallow, MembersAreShallow}
-
-pub IsShallow-string : (k : ℕ) (s : List ℕ) → IsShallow k (string s)
-IsShallow-string k s = (refl, omega arith)
-
-pub IsShallow-unsigned : (k n : ℕ) → IsShallow k (number (unsigned n))
-IsShallow-unsigned k n = (refl, omega arith)
 
 pub IsShallow-integer : (k : ℕ) (z : ℤ) → IsShallow k (number (of_integer z))
 IsShallow-integer k (pos n) = (refl, omega arith)
@@ -48,9 +42,6 @@ MembersAreShallow-none k = (refl, omega arith)
 
 pub MembersAreShallow-member : (k : ℕ) (name : List ℕ) (d : Data) (ms : Members) → IsShallow k d → MembersAreShallow k ms → MembersAreShallow k (member name d ms)
 MembersAreShallow-member k name d ms h rest = (rw (h.0, rest.0) refl, omega (arith, h.1, rest.1))
-
-pub IsShallow-object : (k : ℕ) (ms : Members) → MembersAreShallow k ms → IsShallow (suc k) (object ms)
-IsShallow-object k ms h = (h.0, omega (arith, h.1))
 
 one_of_three : (o : Ordering) (a b c : Members) (k : ℕ) → MembersAreShallow k a → MembersAreShallow k b → MembersAreShallow k c → MembersAreShallow k (match_ordering o a b c)
 one_of_three Less a b c k x y z = x

@@ -2,11 +2,13 @@
 #![tactic(auto)]
 
 mod key;
+mod object;
 mod reading;
 mod refusal;
 mod writing;
 
 pub use key::Key;
+pub use object::ObjectBuilder;
 pub use reading::{
     items, items_or_none, member, members, members_rise, number, number_or, parse, text, text_item,
 };

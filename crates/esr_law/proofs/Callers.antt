@@ -7,9 +7,10 @@ use Rattle.esr_model.specs.Image.{Image, IsStored}
 use Rattle.esr_core.specs.World.{World, Caller, no_caller}
 use Rattle.esr_core.specs.Entry.{Read, ReadBlob, CheckedAll, CommitTest, RemoveTests, VerifiedAll, ReadFails, DrawTest, Step, AskStep, LookStep, ReadStep, Reply, WasDone, WasFetched, WasRemoved, HasEnded, Refusal, IdsSpent, Refused, Moment}
 use Rattle.esr_core.specs.After.{is_heard, caller_told, caller_wrote, caller_read, caller_after, told_blob, answered, after}
-use Rattle.esr_core.specs.Changes.{StepChange, SwapFault}
+use Rattle.esr_core.specs.Changes.{StepChange}
 use Rattle.esr_core.specs.Allowed as allowed
 use Rattle.esr_core.specs.Allowed.{IsOwnTest, MayRemoveTests, ReadAllows, VerifyAllows, Allows, Allowed}
+use Rattle.esr_core.specs.Laws.StepFrames.{change_caller}
 
 -- the steps on test blobs
 abbrev TestsAsk : Formats → World → Read → Reply → Type 0
@@ -77,15 +78,11 @@ committed_after f c zero (ReadStep read) reply image name h = committed_read f c
 committed_after f c (suc k) (ReadStep read) reply image name h = inl h
 committed_after f c who step reply image name h = inl h
 
--- what a step makes of the rest of the world leaves it
-caller_stays : (f : Formats) (w : World) (who : ℕ) (step : Step) (up : World) → StepChange f w who step up → up.caller ≡ w.caller
-caller_stays f w who step up (SwapFault e v h) = caller_stays f w who step v h
-caller_stays f w who step up h = refl
-
 not_done : (refusal : Refusal) → WasDone ≡ Refused refusal → ⊥
 not_done refusal e = cc
 
-pub tests_stored : (f : Formats) (size : ℕ) (w : World) (m : Moment) → StepChange f w m.entry.who m.entry.step (answered f w m.entry.who m.entry.step m.entry.reply m.image) → Allowed f size w m → TestsStored f w → TestsStored f (after f w m)
+pub tests_stored : (f : Formats) (size : ℕ) (w : World) (m : Moment) → StepChange f w m.entry.who m.entry.step (answered f w m.entry.who m.entry.step m.entry.reply m.image) → Allowed f size w m → TestsStored f w
+    → TestsStored f (after f w m)
 tests_stored f size w m change a stored name h = elim (committed_after f w.caller m.entry.who m.entry.step m.entry.reply m.image name before) [
   | inl was ↦ stored name was
   | inr now ↦ elim a.answered [
@@ -95,7 +92,7 @@ tests_stored f size w m change a stored name h = elim (committed_after f w.calle
 ]
   where
     before : Has (caller_after f w.caller m.entry.who m.entry.step m.entry.reply m.image).committed name
-    before = subst (λ (c : Caller). Has (caller_after f c m.entry.who m.entry.step m.entry.reply m.image).committed name) (caller_stays f w m.entry.who m.entry.step (answered f w m.entry.who m.entry.step m.entry.reply m.image) change) h
+    before = subst (λ (c : Caller). Has (caller_after f c m.entry.who m.entry.step m.entry.reply m.image).committed name) (change_caller f w m.entry.who m.entry.step (answered f w m.entry.who m.entry.step m.entry.reply m.image) change) h
 
     by : IsCommitted m.entry.step m.entry.reply name → Allows f size w m.entry.who m.entry.step m.entry.reply m.image → IsOwnTest f w name
     by now allows =

@@ -13,13 +13,14 @@ use Rattle.esr_core.specs.After.{after, blobs_in}
 use Rattle.esr_core.specs.Allowed.{Allowed, InReach}
 use Rattle.esr_core.specs.History.{world_from, IsLegal, AreTold}
 use Rattle.esr_core.specs.Cleaned.{HoldsReachAlone, ListsListedAlone, IsFirstPage, IsLastDrop, IsTestCommit, ChangesBlobs, NoneOf}
+use Rattle.esr_core.specs.Laws.BlobFrames.{text_one}
+use Rattle.esr_core.specs.Laws.Histories.{world_parts}
 use Rattle.esr_law.specs.Cleanups.{HasFirstPage, IsEndedCleanup}
 use Rattle.esr_law.specs.Latest.{HasLatest}
 use Rattle.esr_law.specs.Reach.{RefusesUnlisted, HoldsListedReach, HoldsReach}
 use Rattle.esr_law.specs.Exact.{HoldsExactly}
-use Rattle.esr_law.proofs.Doomed.{back_same}
 use Rattle.esr_law.proofs.Reach.{root_there, IsNoRoot, reached_no_root}
-use Rattle.esr_law.proofs.Worlds.{Tells, world_parts, tells_front, tells_back}
+use Rattle.esr_law.proofs.Worlds.{Tells, tells_front, tells_back}
 
 -- what the container tells of a step
 abbrev ChangesSo : Formats → ℕ → Type 0
@@ -50,9 +51,9 @@ same_root f w alone n (bytes, at) = by (alone (f.names.text (Root n)) bytes at.0
     root_number a b e = cc
 
     by : (name : BlobName) × (f.names.text name ≡ f.names.text (Root n)) × ReadsBack f.names name × ((name ≡ Latest) ⊎ InReach f w name) → w.safe ≡ suc n
-    by (name, text, back, inl latest) = absurd (no_latest (sym (back_same f name (Root n) back at.1.0 text) ∙ latest))
-    by (name, text, back, inr (m, safe, inl root)) = safe ∙ ap suc (root_number m n (sym root ∙ back_same f name (Root n) back at.1.0 text))
-    by (name, text, back, inr (m, safe, inr far)) = absurd (subst IsNoRoot (back_same f name (Root n) back at.1.0 text) (reached_no_root f _ far.0 name far.2))
+    by (name, text, back, inl latest) = absurd (no_latest (sym (text_one f name (Root n) back at.1.0 text) ∙ latest))
+    by (name, text, back, inr (m, safe, inl root)) = safe ∙ ap suc (root_number m n (sym root ∙ text_one f name (Root n) back at.1.0 text))
+    by (name, text, back, inr (m, safe, inr far)) = absurd (subst IsNoRoot (text_one f name (Root n) back at.1.0 text) (reached_no_root f _ far.0 name far.2))
 
 -- the law of the core, for this cleanup
 abbrev LeavesReach : Formats → ℕ → World → Type 0
@@ -96,7 +97,8 @@ module _ (f : Formats) (size : ℕ) (w : World) (core : LeavesReach f size w) (l
       late = tells_back f size (before ++ last ∷ []) rest w split
 
       same : (world_from f w (before ++ last ∷ rest)).blobs ≡ (world_from f w (before ++ last ∷ [])).blobs
-      same = ap (λ (log : List Moment). (world_from f w log).blobs) parts ∙ ap (λ (x : World). x.blobs) (world_parts f (before ++ last ∷ []) rest w) ∙ blobs_stay f size changes rest (world_from f w (before ++ last ∷ [])) late.legal late.told none
+      same = ap (λ (log : List Moment). (world_from f w log).blobs) parts ∙ ap (λ (x : World). x.blobs) (world_parts f (before ++ last ∷ []) rest w)
+          ∙ blobs_stay f size changes rest (world_from f w (before ++ last ∷ [])) late.legal late.told none
 
   pub exactly : (rest : List Moment) → Tells f size w (before ++ last ∷ rest) → NoneOf ChangesBlobs rest → HoldsExactly f (world_from f w (before ++ last ∷ rest))
   exactly rest tells none =

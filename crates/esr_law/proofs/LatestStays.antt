@@ -1,7 +1,9 @@
 -- `index.latest` stays from where a cleanup's ticket replaced it until the ticket's drop.
-use Rattle.std.proofs.Common.{◌≡◌, ◌≢◌, ◌⊎◌, ℕ, suc, ◌<◌, ◌≤◌, Bool, true, false, true≢false, List, [], ◌∷◌, ◌++◌, Option, Some, refl, sym, ap, ◌∙◌, subst, inl, inr, arith}
+use Rattle.std.proofs.Common.{◌≡◌, ◌≢◌, ◌⊎◌, ℕ, suc, ◌<◌, ◌≤◌, true, false, true≢false, List, [], ◌∷◌, ◌++◌, Option, Some, refl, sym, ap, ◌∙◌, subst, inl, inr, arith}
 use Rattle.std.specs.FinMap as fin
 use Rattle.std.specs.Cmp.Lexicographic.{nat_list_cmp_total}
+use Rattle.std.proofs.lemmas.Bool.{cases_Bool}
+use Rattle.std.proofs.lemmas.Option.{same_Some, none-some}
 use Rattle.esr_model.specs.Lists.{Has-either}
 use Rattle.esr_model.specs.Names.{BlobName, Latest}
 use Rattle.esr_model.specs.Values.{Bytes, Has, ReadsBack, Formats}
@@ -25,14 +27,16 @@ use Rattle.esr_core.specs.Allowed.{Told, latest_text, Puts, RemovesDoomed, Prune
 use Rattle.esr_core.specs.History.{world_from, is_settle}
 use Rattle.esr_core.specs.Cleaned.{IsLastDrop}
 use Rattle.esr_core.specs.Laws.UnitSteps.{other_unit, settle_unit}
+use Rattle.esr_core.specs.Laws.BlobFrames.{text_one}
+use Rattle.esr_core.specs.Laws.Histories.{world_parts}
 use Rattle.esr_law.specs.Cleanups.{IsGivenCleanup, IsEndedCleanup}
 use Rattle.esr_law.specs.Latest.{HasLatest}
-use Rattle.esr_law.proofs.Maps.{some_same, none_some, get_put, get_kept}
+use Rattle.esr_law.proofs.Maps.{get_put, get_kept}
 use Rattle.esr_law.proofs.OwnSteps.{IsCleaning, Own, OnKeep, OnPage, OnSettle, OnFall}
 use Rattle.esr_law.proofs.Turns.{StepLaws, Turned, OnBlock, OnOther, OnOwn, blocked_leaves, fresh, turned, cleaning_on, handed_out, cleaning_given}
-use Rattle.esr_law.proofs.Worlds.{KnownStep, Along, Tells, world_parts, along, along_parts}
+use Rattle.esr_law.proofs.Worlds.{KnownStep, Along, Tells, along, along_parts}
 use Rattle.esr_law.proofs.Callers.{TestsStored, tests_ask, tests_stored}
-use Rattle.esr_law.proofs.Doomed.{ListedBack, back_same, doomed_apart}
+use Rattle.esr_law.proofs.Doomed.{ListedBack, doomed_apart}
 use Rattle.esr_law.proofs.Entries.{entry_now}
 use Rattle.esr_law.proofs.Pages.{IsDropped, dropped}
 
@@ -53,10 +57,6 @@ stays_deposed : (f : Formats) (w : World) (who : ℕ) (step : Step) (up : World)
 stays_deposed f w who step up (SwapFault e v h) dead = refl
 stays_deposed f w who step up h dead = dead
 
-bool_told : (b : Bool) → (b ≡ true) ⊎ (b ≡ false)
-bool_told true = inl refl
-bool_told false = inr refl
-
 -- the ticket is out, of the present term, in a world that isn't deposed
 record IsLive (w : World) (t : Ticket) : Type 0 where
   out : t.out ≡ true
@@ -65,7 +65,8 @@ record IsLive (w : World) (t : Ticket) : Type 0 where
 
 -- ---- what conditions say
 
-puts_by : {f : Formats} {size : ℕ} {w : World} {who : ℕ} {image : Option Image} → Allows f size w who LatestStep WasReplaced image → (p : Puts f w who) × ReadsBack f.names Latest × Told image (λ blobs. blobs ≡ fin.insert w.blobs (f.names.text Latest) (latest_text p.n))
+puts_by : {f : Formats} {size : ℕ} {w : World} {who : ℕ} {image : Option Image} → Allows f size w who LatestStep WasReplaced image
+    → (p : Puts f w who) × ReadsBack f.names Latest × Told image (λ blobs. blobs ≡ fin.insert w.blobs (f.names.text Latest) (latest_text p.n))
 puts_by (allowed.Replacing k image p named put) = (p, named, put)
 
 abbrev PruneAsks : Formats → World → ℕ → Option Image → Prune → Type 0
@@ -116,7 +117,8 @@ latest_stays f w step now (NewBlob name bytes is stored absent same) no_put no_r
 latest_stays f w step now (NewLatest bytes is back same) no_put no_removal b there = absurd (no_put is)
 latest_stays f w step now (Removal names is removes) no_put no_removal b there = removes.others (f.names.text Latest) b there (no_removal names is)
 
-module _ (f : Formats) (size : ℕ) (laws : ChangeLaws f size) (w : World) (m : Moment) (s : KnownStep f size w m) (k : ℕ) (t : Ticket) (there : fin.get w.tickets k ≡ Some t) (c : IsCleaning t) (first : k ≢ 0) (live : IsLive w t) (st : PutState f w k t) where
+module _ (f : Formats) (size : ℕ) (laws : ChangeLaws f size) (w : World) (m : Moment) (s : KnownStep f size w m) (k : ℕ) (t : Ticket)
+    (there : fin.get w.tickets k ≡ Some t) (c : IsCleaning t) (first : k ≢ 0) (live : IsLive w t) (st : PutState f w k t) where
   now_blobs : (after f w m).blobs ≡ s.image.blobs
   now_blobs = ap (λ (x : Option Image). blobs_in x w.blobs) s.told
 
@@ -136,14 +138,16 @@ module _ (f : Formats) (size : ℕ) (laws : ChangeLaws f size) (w : World) (m : 
       s.known.law.lawful.queue.sole k t there live.out (subst IsMaster (sym c.work) tt) live.present its.x its.there its.cleans j u out.there out.out
 
   -- no test blob has its text
-  no_test : ReadsBack f.names Latest → Allows f size w m.entry.who m.entry.step m.entry.reply m.image → (names : List BlobName) → m.entry.step ≡ ReadStep (RemoveTests names) → (name : BlobName) → Has names name → f.names.text name ≡ f.names.text Latest → ⊥
+  no_test : ReadsBack f.names Latest → Allows f size w m.entry.who m.entry.step m.entry.reply m.image → (names : List BlobName) → m.entry.step ≡ ReadStep (RemoveTests names) → (name : BlobName) → Has names name
+      → f.names.text name ≡ f.names.text Latest → ⊥
   no_test back allows names is name h same =
       let may = tests_ask f size w m.entry.who (RemoveTests names) m.entry.reply m.image (subst (λ (x : Step). Allows f size w m.entry.who x m.entry.reply m.image) is allows) in
       let stored = st.tests name (may.committed name h) in
-      stored.1 (back_same f name Latest stored.0 back same)
+      stored.1 (text_one f name Latest stored.0 back same)
 
   -- the same ticket after a step that leaves what it listed and raised
-  put_kept : (v : Ticket) → ((n : ℕ) → t.raised ≡ Some n → v.raised ≡ Some n) → ((b : Bytes) → ReadsBack f.names Latest → fin.get w.blobs (f.names.text Latest) ≡ Some b → fin.get s.image.blobs (f.names.text Latest) ≡ Some b) → IsPut f w t → IsPut f (after f w m) v
+  put_kept : (v : Ticket) → ((n : ℕ) → t.raised ≡ Some n → v.raised ≡ Some n) → ((b : Bytes) → ReadsBack f.names Latest → fin.get w.blobs (f.names.text Latest) ≡ Some b → fin.get s.image.blobs (f.names.text Latest) ≡ Some b)
+      → IsPut f w t → IsPut f (after f w m) v
   put_kept v raises stays p = record { n = p.n; raised = raises p.n p.raised; there = ap (λ (x : Blobs). fin.get x (f.names.text Latest)) now_blobs ∙ stays (latest_text p.n) p.back p.there; back = p.back }
 
   -- ---- a step that was refused before it was looked at
@@ -194,7 +198,7 @@ module _ (f : Formats) (size : ℕ) (laws : ChangeLaws f size) (w : World) (m : 
 
   module _ (mine : m.entry.who ≡ k) (unit : IsUnits m.entry.step) (allows : Allows f size w m.entry.who m.entry.step m.entry.reply m.image) where
     own_same : (u : Ticket) → IsOut w m.entry.who u → u ≡ t
-    own_same u out = some_same u t (sym out.there ∙ ap (fin.get w.tickets) mine ∙ there)
+    own_same u out = same_Some u t (sym out.there ∙ ap (fin.get w.tickets) mine ∙ there)
 
     -- it isn't replaced again, and what the ticket dooms has other texts
     own_stays : (e : Entry) → Has (entries_by w.entries k) e → e.step ≡ LatestStep → (b : Bytes) → ReadsBack f.names Latest → fin.get w.blobs (f.names.text Latest) ≡ Some b → fin.get s.image.blobs (f.names.text Latest) ≡ Some b
@@ -228,9 +232,10 @@ module _ (f : Formats) (size : ℕ) (laws : ChangeLaws f size) (w : World) (m : 
               back = back;
             }
 
-    own_state : (v : Ticket) → fin.get (after f w m).tickets k ≡ Some v → IsLive (after f w m) v → Own f w m.entry.who t m.entry.step m.entry.reply m.image (answered f w m.entry.who m.entry.step m.entry.reply m.image) → PutState f (after f w m) k v
+    own_state : (v : Ticket) → fin.get (after f w m).tickets k ≡ Some v → IsLive (after f w m) v → Own f w m.entry.who t m.entry.step m.entry.reply m.image (answered f w m.entry.who m.entry.step m.entry.reply m.image)
+        → PutState f (after f w m) k v
     own_state v at after_live (OnKeep h) =
-        subst (PutState f (after f w m) k) (some_same h.v v (sym h.at ∙ ap (fin.get (after f w m).tickets) mine ∙ at))
+        subst (PutState f (after f w m) k) (same_Some h.v v (sym h.at ∙ ap (fin.get (after f w m).tickets) mine ∙ at))
         (record {
           backs = λ b listed. st.backs b (subst (λ xs. Has xs b) h.listed listed);
           tests = tests_now;
@@ -239,9 +244,9 @@ module _ (f : Formats) (size : ℕ) (laws : ChangeLaws f size) (w : World) (m : 
         })
       where
         raises : (n : ℕ) → t.raised ≡ Some n → h.v.raised ≡ Some n
-        raises n is = elim h.raised [ inl same ↦ same ∙ is | inr none ↦ absurd (none_some n (sym none ∙ is)) ]
+        raises n is = elim h.raised [ inl same ↦ same ∙ is | inr none ↦ absurd (none-some n (sym none ∙ is)) ]
     own_state v at after_live (OnPage from page step reply from_is told got safe) =
-        subst (PutState f (after f w m) k) (some_same (listing t page) v (sym got ∙ ap (fin.get (after f w m).tickets) mine ∙ at))
+        subst (PutState f (after f w m) k) (same_Some (listing t page) v (sym got ∙ ap (fin.get (after f w m).tickets) mine ∙ at))
         (record {
           backs = λ b listed. elim (Has-either t.listed page b listed) [ inl before ↦ st.backs b before | inr now ↦ paged b now ];
           tests = tests_now;
@@ -255,7 +260,7 @@ module _ (f : Formats) (size : ℕ) (laws : ChangeLaws f size) (w : World) (m : 
             let found = (told_now (λ blobs. IsPageOf w.blobs from page × (blobs ≡ w.blobs)) told).0.there b now in
             s.known.law.lawful.sound.rooted.kept.named b.text found.0 found.1
     own_state v at after_live (OnSettle d is got safe) =
-        subst (PutState f (after f w m) k) (some_same (record t { settled = true }) v (sym got ∙ ap (fin.get (after f w m).tickets) mine ∙ at))
+        subst (PutState f (after f w m) k) (same_Some (record t { settled = true }) v (sym got ∙ ap (fin.get (after f w m).tickets) mine ∙ at))
         (record {
           backs = st.backs;
           tests = tests_now;
@@ -268,8 +273,8 @@ module _ (f : Formats) (size : ℕ) (laws : ChangeLaws f size) (w : World) (m : 
   state_after v at after_live = by (turned f size laws.steps w m s.known.tracked s.known.reads s.legal k t there c first)
     where
       by : Turned f size w m k t → PutState f (after f w m) k v
-      by (OnBlock b same) = subst (PutState f (after f w m) k) (some_same t v (sym same ∙ at)) (blocked_state b)
-      by (OnOther apart made allows same) = subst (PutState f (after f w m) k) (some_same t v (sym same ∙ at)) (by_other apart made allows)
+      by (OnBlock b same) = subst (PutState f (after f w m) k) (same_Some t v (sym same ∙ at)) (blocked_state b)
+      by (OnOther apart made allows same) = subst (PutState f (after f w m) k) (same_Some t v (sym same ∙ at)) (by_other apart made allows)
       by (OnOwn mine alive unit allows own) = own_state mine unit allows v at after_live own
 
 -- ---- from the ticket to its drop
@@ -298,18 +303,20 @@ module _ (f : Formats) (size : ℕ) (laws : ChangeLaws f size) where
       record {
         out = same.out live.out;
         present = omega (arith, below, rises, now, kept);
-        alive = elim (bool_told w.deposed) [
+        alive = elim (cases_Bool w.deposed) [
           | inl dead ↦ absurd (true≢false (sym (stays_deposed f w m.entry.who m.entry.step (answered f w m.entry.who m.entry.step m.entry.reply m.image) (laws.change w m) dead) ∙ live.alive))
           | inr alive ↦ alive
         ];
       }
 
-  live_from : (log : List Moment) (w : World) → Along f size w log → (k : ℕ) (t : Ticket) → fin.get w.tickets k ≡ Some t → IsCleaning t → ((v : Ticket) → fin.get (world_from f w log).tickets k ≡ Some v → IsCleaning v → IsLive (world_from f w log) v) → IsLive w t
+  live_from : (log : List Moment) (w : World) → Along f size w log → (k : ℕ) (t : Ticket) → fin.get w.tickets k ≡ Some t → IsCleaning t
+      → ((v : Ticket) → fin.get (world_from f w log).tickets k ≡ Some v → IsCleaning v → IsLive (world_from f w log) v) → IsLive w t
   live_from [] w s k t there c end = end t there c
   live_from (m ∷ log) w s k t there c end =
       let v = stays w m s.0 k t there in live_before w m s.0 k t v.0 there v.2 (live_from log (after f w m) s.1 k v.0 v.1 (cleaning_on t v.0 v.2 c) end)
 
-  states : (log : List Moment) (w : World) → Along f size w log → (k : ℕ) (t : Ticket) → fin.get w.tickets k ≡ Some t → IsCleaning t → k ≢ 0 → ((v : Ticket) → fin.get (world_from f w log).tickets k ≡ Some v → IsCleaning v → IsLive (world_from f w log) v) → PutState f w k t → AtDrop f (world_from f w log) k
+  states : (log : List Moment) (w : World) → Along f size w log → (k : ℕ) (t : Ticket) → fin.get w.tickets k ≡ Some t → IsCleaning t → k ≢ 0
+      → ((v : Ticket) → fin.get (world_from f w log).tickets k ≡ Some v → IsCleaning v → IsLive (world_from f w log) v) → PutState f w k t → AtDrop f (world_from f w log) k
   states [] w s k t there c first end st = record { t = t; there = there; cleaning = c; state = st }
   states (m ∷ log) w s k t there c first end st =
       let v = stays w m s.0 k t there in
@@ -360,7 +367,7 @@ module _ (f : Formats) (size : ℕ) (laws : ChangeLaws f size) where
   latest_now w last one k drop end =
       record {
         n = put.n;
-        safe = same_safe ∙ safe.2 ∙ ap suc (some_same safe.0 put.n (sym safe.1 ∙ put.raised));
+        safe = same_safe ∙ safe.2 ∙ ap suc (same_Some safe.0 put.n (sym safe.1 ∙ put.raised));
         there = ap (λ (x : Blobs). fin.get x (f.names.text Latest)) same_blobs ∙ put.there;
       }
     where
@@ -382,8 +389,8 @@ module _ (f : Formats) (size : ℕ) (laws : ChangeLaws f size) where
       same_safe : (after f w last).safe ≡ w.safe
       same_safe = elim (laws.steps.frame w last).root [ inl same ↦ same.0 | inr settle ↦ absurd (no_settle (sym (ap is_settle drop.step) ∙ settle)) ]
 
-  latest_left : (before : List Moment) (w : World) → Along f size w before → (last : Moment) (k : ℕ) → KnownStep f size (world_from f w before) last → TestsStored f w → w.entries ≡ [] → (given : Moment) → Has before given → IsGivenCleanup given k → IsLastDrop last k
-      → HasLatest f (after f (world_from f w before) last)
+  latest_left : (before : List Moment) (w : World) → Along f size w before → (last : Moment) (k : ℕ) → KnownStep f size (world_from f w before) last → TestsStored f w → w.entries ≡ [] → (given : Moment) → Has before given
+      → IsGivenCleanup given k → IsLastDrop last k → HasLatest f (after f (world_from f w before) last)
   latest_left before w s last k one tests no_entry given there gives drop =
       latest_now (world_from f w before) last one k drop (states_from before w s k tests (λ e h is. absurd (subst (λ (es : List Entry). Has (entries_by es k) e) no_entry h)) given there gives live)
     where
@@ -392,8 +399,8 @@ module _ (f : Formats) (size : ℕ) (laws : ChangeLaws f size) where
 
 -- ---- the whole history
 
-pub latest_put : (f : Formats) (size : ℕ) (laws : ChangeLaws f size) (w : World) → ((log : List Moment) → Tells f size w log → (shelf : List Shelved) × Law f (world_from f w log) shelf) → Tracked w → ReadTracked w → TestsStored f w → w.entries ≡ []
-    → (before : List Moment) (last : Moment) (k : ℕ) → Tells f size w (before ++ last ∷ []) → IsEndedCleanup before last k → HasLatest f (world_from f w (before ++ last ∷ []))
+pub latest_put : (f : Formats) (size : ℕ) (laws : ChangeLaws f size) (w : World) → ((log : List Moment) → Tells f size w log → (shelf : List Shelved) × Law f (world_from f w log) shelf) → Tracked w → ReadTracked w → TestsStored f w
+    → w.entries ≡ [] → (before : List Moment) (last : Moment) (k : ℕ) → Tells f size w (before ++ last ∷ []) → IsEndedCleanup before last k → HasLatest f (world_from f w (before ++ last ∷ []))
 latest_put f size laws w lawful tracked reads tests no_entry before last k tells e =
     let s = along_parts f size before (last ∷ []) w (along f size w laws.steps.tracks laws.steps.reads lawful (before ++ last ∷ []) tells tracked reads) in
     subst (HasLatest f) (sym (world_parts f before (last ∷ []) w)) (latest_left f size laws before w s.0 last k s.1.0 tests no_entry e.given e.there e.gives e.drop)

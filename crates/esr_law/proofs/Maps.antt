@@ -1,16 +1,11 @@
 -- What a map has after an insertion, and what an option holds.
-use Rattle.std.proofs.Common.{◌≡◌, Bool, true, false, cond, Option, Some, None, Ordering, refl, sym, ap, ◌∙◌}
+use Rattle.std.proofs.Common.{◌≡◌, Bool, true, false, cond, Some, None, Ordering, refl, sym, ap, ◌∙◌}
 use Rattle.std.specs.Ordering.{eq_by_cmp}
 use Rattle.std.specs.Cmp.{IsTotalOrder, eq_by_cmp_equiv}
 use Rattle.std.specs.FinMap.{FinMap}
 use Rattle.std.specs.FinMap as fin
+use Rattle.std.proofs.lemmas.Option.{none-some}
 use Rattle.esr_core.specs.Laws.NumberMaps.{tied}
-
-pub some_same : {A : Type 0} (x y : A) → Some x ≡ Some y → x ≡ y
-some_same x y e = cc
-
-pub none_some : {A : Type 0} (x : A) → ◌≡◌ {A = Option A} None (Some x) → ⊥
-none_some x e = cc
 
 module _ {K X : Type 0} {R : K → K → Ordering} (o : IsTotalOrder R) where
   pub get_put : (m : FinMap R X) (k : K) (v : X) → fin.get (fin.insert m k v) k ≡ Some v
@@ -21,5 +16,5 @@ module _ {K X : Type 0} {R : K → K → Ordering} (o : IsTotalOrder R) where
   get_kept m k v q x none there = fin.get-insert o m k v q ∙ by (eq_by_cmp R q k) refl
     where
       by : (b : Bool) → eq_by_cmp R q k ≡ b → cond b (Some v) (fin.get m q) ≡ Some x
-      by true e = absurd (none_some x (sym none ∙ fin.get_tied o m q k (tied (R q k) e) ∙ there))
+      by true e = absurd (none-some x (sym none ∙ fin.get_tied o m q k (tied (R q k) e) ∙ there))
       by false e = there

@@ -2,6 +2,7 @@
 use Rattle.std.proofs.Common.{◌≡◌, ◌⊎◌, ℕ, suc, List, Bool, true, false, Option, Some, None, refl, sym, ap, ◌∙◌, subst, inl, inr}
 use Rattle.std.specs.Prelude.{if◌then◌else◌}
 use Rattle.std.specs.FinMap as fin
+use Rattle.std.proofs.lemmas.Option.{same_Some, none-some}
 use Rattle.esr_core.specs.Laws.NumberMaps.{same_in}
 use Rattle.esr_model.specs.Names.{BlobName}
 use Rattle.esr_model.specs.Values.{Bytes, SnapInfo, ShardResult, Formats}
@@ -17,7 +18,6 @@ use Rattle.esr_core.specs.Entry.{Prune, Step, AskStep, TakeStep, DrawStep, Begin
 use Rattle.esr_core.specs.After.{with_given, committing, fetching, told_blob, delete_settled_by, delete_settled, delete_failed_by, delete_failed, failed_by, failed_of, dropped_of, is_stale, has_text, is_latest, tried, raised, answered}
 use Rattle.esr_core.specs.Allowed as allowed
 use Rattle.esr_core.specs.Allowed.{Told, SettlesDeletion, PruneAllows, Allows}
-use Rattle.esr_law.proofs.Maps.{some_same, none_some}
 
 -- a cleanup's ticket
 pub record IsCleaning (t : Ticket) : Type 0 where
@@ -47,8 +47,8 @@ pub record FallenOn (w : World) (k : ℕ) (t : Ticket) (up : World) : Type 0 whe
 -- what its step makes of it
 pub data Own (f : Formats) (w : World) (k : ℕ) (t : Ticket) (step : Step) (reply : Reply) (image : Option Image) (up : World) : Type 0 where
   OnKeep : KeptOn w k t up → Own f w k t step reply image up
-  OnPage : (from : Option Bytes) (page : List BlobSize) → step ≡ ListStep from → reply ≡ WasListed page → from ≡ last_text t.listed → Told image (λ blobs. IsPageOf w.blobs from page × (blobs ≡ w.blobs)) → fin.get up.tickets k ≡ Some (listing t page) → up.safe ≡ w.safe
-      → Own f w k t step reply image up
+  OnPage : (from : Option Bytes) (page : List BlobSize) → step ≡ ListStep from → reply ≡ WasListed page → from ≡ last_text t.listed → Told image (λ blobs. IsPageOf w.blobs from page × (blobs ≡ w.blobs))
+      → fin.get up.tickets k ≡ Some (listing t page) → up.safe ≡ w.safe → Own f w k t step reply image up
   OnSettle : (s : SettlesDeletion f w k) → s.t ≡ t → fin.get up.tickets k ≡ Some (record t { settled = true }) → up.safe ≡ suc s.n → Own f w k t step reply image up
   OnFall : up.deposed ≡ true → FallenOn w k t up → Own f w k t step reply image up
 
@@ -56,7 +56,7 @@ module _ (f : Formats) (size : ℕ) (w : World) where
   module _ (k : ℕ) (t : Ticket) (there : fin.get w.tickets k ≡ Some t) (c : IsCleaning t) where
     -- it is this ticket
     same_out : (u : Ticket) → IsOut w k u → u ≡ t
-    same_out u out = some_same u t (sym out.there ∙ there)
+    same_out u out = same_Some u t (sym out.there ∙ there)
 
     no_shard : (u : Ticket) → IsOut w k u → IsShard u.work → ⊥
     no_shard u out h = subst IsShard (ap (λ (x : Ticket). x.work) (same_out u out) ∙ c.work) h
@@ -72,10 +72,11 @@ module _ (f : Formats) (size : ℕ) (w : World) where
     kept = record { v = t; at = there; listed = refl; whole = refl; raised = inl refl; settled = refl; safe = refl }
 
     -- the ticket given anew
-    kept_by : (g : Ticket → Ticket) → (g t).listed ≡ t.listed → (g t).whole ≡ t.whole → ((g t).raised ≡ t.raised) ⊎ (t.raised ≡ None) → (g t).settled ≡ t.settled → (o : Option Ticket) → o ≡ Some t → KeptOn w k t (with_given w k g o)
-    kept_by g listed whole raise settled None is = absurd (none_some t is)
+    kept_by : (g : Ticket → Ticket) → (g t).listed ≡ t.listed → (g t).whole ≡ t.whole → ((g t).raised ≡ t.raised) ⊎ (t.raised ≡ None) → (g t).settled ≡ t.settled → (o : Option Ticket) → o ≡ Some t
+        → KeptOn w k t (with_given w k g o)
+    kept_by g listed whole raise settled None is = absurd (none-some t is)
     kept_by g listed whole raise settled (Some u) is =
-        subst (λ (x : Ticket). KeptOn w k t (with_given w k g (Some x))) (sym (some_same u t is)) (record { v = g t; at = same_in w.tickets k (g t); listed = listed; whole = whole; raised = raise; settled = settled; safe = refl })
+        subst (λ (x : Ticket). KeptOn w k t (with_given w k g (Some x))) (sym (same_Some u t is)) (record { v = g t; at = same_in w.tickets k (g t); listed = listed; whole = whole; raised = raise; settled = settled; safe = refl })
 
     kept_with : (up : World) → KeptOn w k t up → (next pending : ℕ) → KeptOn w k t (record up { next_id = next; pending = pending })
     kept_with up h next pending = record { v = h.v; at = h.at; listed = h.listed; whole = h.whole; raised = h.raised; settled = h.settled; safe = h.safe }
@@ -100,19 +101,20 @@ module _ (f : Formats) (size : ℕ) (w : World) where
     read_kept name (Some b) = kept_by (fetching name (Some b)) refl refl (inl refl) refl (fin.get w.tickets k) there
 
     paged : (page : List BlobSize) (o : Option Ticket) → o ≡ Some t → (fin.get (with_given w k (λ (x : Ticket). listing x page) o).tickets k ≡ Some (listing t page)) × ((with_given w k (λ (x : Ticket). listing x page) o).safe ≡ w.safe)
-    paged page None is = absurd (none_some t is)
-    paged page (Some u) is = (same_in w.tickets k (listing u page) ∙ ap (λ (x : Ticket). Some (listing x page)) (some_same u t is), refl)
+    paged page None is = absurd (none-some t is)
+    paged page (Some u) is = (same_in w.tickets k (listing u page) ∙ ap (λ (x : Ticket). Some (listing x page)) (same_Some u t is), refl)
 
     -- the settle
-    settled_by : (o : Option Swap) (p : Option ℕ) (s : Swap) (n : ℕ) → o ≡ Some s → p ≡ Some n → (fin.get (delete_settled_by f w k t o p).tickets k ≡ Some (record t { settled = true })) × ((delete_settled_by f w k t o p).safe ≡ suc n)
-    settled_by None p s n is at = absurd (none_some s is)
-    settled_by (Some x) None s n is at = absurd (none_some n at)
-    settled_by (Some x) (Some m) s n is at = (same_in w.tickets k (record t { settled = true }), ap suc (some_same m n at))
+    settled_by : (o : Option Swap) (p : Option ℕ) (s : Swap) (n : ℕ) → o ≡ Some s → p ≡ Some n
+        → (fin.get (delete_settled_by f w k t o p).tickets k ≡ Some (record t { settled = true })) × ((delete_settled_by f w k t o p).safe ≡ suc n)
+    settled_by None p s n is at = absurd (none-some s is)
+    settled_by (Some x) None s n is at = absurd (none-some n at)
+    settled_by (Some x) (Some m) s n is at = (same_in w.tickets k (record t { settled = true }), ap suc (same_Some m n at))
 
     settled_up : (s : SettlesDeletion f w k) (o : Option Ticket) → o ≡ Some t → (fin.get (delete_settled f w k o).tickets k ≡ Some (record t { settled = true })) × ((delete_settled f w k o).safe ≡ suc s.n)
-    settled_up s None is = absurd (none_some t is)
+    settled_up s None is = absurd (none-some t is)
     settled_up s (Some u) is =
-        subst (λ (x : Ticket). (fin.get (delete_settled f w k (Some x)).tickets k ≡ Some (record t { settled = true })) × ((delete_settled f w k (Some x)).safe ≡ suc s.n)) (sym (some_same u t is))
+        subst (λ (x : Ticket). (fin.get (delete_settled f w k (Some x)).tickets k ≡ Some (record t { settled = true })) × ((delete_settled f w k (Some x)).safe ≡ suc s.n)) (sym (same_Some u t is))
         (settled_by (swap f t) t.raised s.s s.n (subst (λ (x : Ticket). swap f x ≡ Some s.s) mine s.may.is) (subst (λ (x : Ticket). x.raised ≡ Some s.n) mine s.may.raised))
       where
         mine : s.t ≡ t
@@ -120,25 +122,28 @@ module _ (f : Formats) (size : ℕ) (w : World) where
 
     -- the failure of a delete or cleanup, and of another unit
     delete_over : (o : Option Ticket) → o ≡ Some t → KeptOn w k t (delete_failed w k o)
-    delete_over None is = absurd (none_some t is)
-    delete_over (Some u) is = subst (λ (x : Ticket). KeptOn w k t (delete_failed w k (Some x))) (sym (some_same u t is)) (either_kept (with_ticket w k (record t { out = false })) (delete_failed_by w k t (fin.get w.deletes t.op)) (is_stale w t t.work) over (by_op (fin.get w.deletes t.op)))
+    delete_over None is = absurd (none-some t is)
+    delete_over (Some u) is = subst (λ (x : Ticket). KeptOn w k t (delete_failed w k (Some x))) (sym (same_Some u t is))
+        (either_kept (with_ticket w k (record t { out = false })) (delete_failed_by w k t (fin.get w.deletes t.op)) (is_stale w t t.work) over (by_op (fin.get w.deletes t.op)))
       where
         by_op : (x : Option Deletion) → KeptOn w k t (delete_failed_by w k t x)
         by_op None = kept
         by_op (Some x) = record { v = record t { out = false }; at = same_in w.tickets k (record t { out = false }); listed = refl; whole = refl; raised = inl refl; settled = refl; safe = refl }
 
     failure_over : (o : Option Ticket) → o ≡ Some t → KeptOn w k t (failed_of w k o)
-    failure_over None is = absurd (none_some t is)
-    failure_over (Some u) is = subst (λ (x : Ticket). KeptOn w k t (failed_of w k (Some x))) (sym (some_same u t is)) (either_kept (with_ticket w k (record t { out = false })) (failed_by w k t (fin.get w.ops t.op)) (is_stale w t t.work) over (by_op (fin.get w.ops t.op)))
+    failure_over None is = absurd (none-some t is)
+    failure_over (Some u) is =
+        subst (λ (x : Ticket). KeptOn w k t (failed_of w k (Some x))) (sym (same_Some u t is)) (either_kept (with_ticket w k (record t { out = false })) (failed_by w k t (fin.get w.ops t.op)) (is_stale w t t.work) over (by_op (fin.get w.ops t.op)))
       where
         by_op : (x : Option Op) → KeptOn w k t (failed_by w k t x)
         by_op None = kept
         by_op (Some x) = record { v = record t { out = false }; at = same_in w.tickets k (record t { out = false }); listed = refl; whole = refl; raised = inl refl; settled = refl; safe = refl }
 
     drop_over : (o : Option Ticket) → o ≡ Some t → KeptOn w k t (dropped_of w k o)
-    drop_over None is = absurd (none_some t is)
+    drop_over None is = absurd (none-some t is)
     drop_over (Some u) is =
-        subst (λ (x : Ticket). KeptOn w k t (dropped_of w k (Some x))) (sym (some_same u t is)) (record { v = record t { out = false }; at = same_in w.tickets k (record t { out = false }); listed = refl; whole = refl; raised = inl refl; settled = refl; safe = refl })
+        subst (λ (x : Ticket). KeptOn w k t (dropped_of w k (Some x))) (sym (same_Some u t is))
+        (record { v = record t { out = false }; at = same_in w.tickets k (record t { out = false }); listed = refl; whole = refl; raised = inl refl; settled = refl; safe = refl })
 
     raise_kept : (u : Ticket) → IsOut w k u → u.raised ≡ None → KeptOn w k t (raised w k)
     raise_kept u out once =
@@ -165,7 +170,8 @@ module _ (f : Formats) (size : ℕ) (w : World) where
         mine : s.t ≡ t
         mine = same_out s.t s.may.out
 
-  pruning_step : (k : ℕ) (t : Ticket) (there : fin.get w.tickets k ≡ Some t) (c : IsCleaning t) (prune : Prune) (reply : Reply) (image : Option Image) → PruneAllows f w k prune reply image → Own f w k t (PruneStep prune) reply image (answered f w k (PruneStep prune) reply image)
+  pruning_step : (k : ℕ) (t : Ticket) (there : fin.get w.tickets k ≡ Some t) (c : IsCleaning t) (prune : Prune) (reply : Reply) (image : Option Image) → PruneAllows f w k prune reply image
+      → Own f w k t (PruneStep prune) reply image (answered f w k (PruneStep prune) reply image)
   pruning_step k t there c prune reply image (allowed.FetchingShard j name im g found) = OnKeep (read_kept k t there c name (told_blob f im name))
   pruning_step k t there c prune reply image (allowed.ShardMissing j name im g gone) = OnKeep (kept k t there c)
   pruning_step k t there c prune reply image (allowed.FetchShardFails j name im g same) = OnKeep (kept k t there c)
@@ -183,7 +189,8 @@ module _ (f : Formats) (size : ℕ) (w : World) where
   pruning_step k t there c prune reply image (allowed.EndingDelete j im d same) = OnKeep (kept_by k t there c (λ (x : Ticket). record x { out = false }) refl refl (inl refl) refl (fin.get w.tickets k) there)
   pruning_step k t there c prune reply image (allowed.FailingDelete j why im d same) = OnKeep (delete_over k t there c (fin.get w.tickets k) there)
 
-  pub own_step : (k : ℕ) (t : Ticket) (there : fin.get w.tickets k ≡ Some t) (c : IsCleaning t) (step : Step) (reply : Reply) (image : Option Image) → IsUnits step → Allows f size w k step reply image → Own f w k t step reply image (answered f w k step reply image)
+  pub own_step : (k : ℕ) (t : Ticket) (there : fin.get w.tickets k ≡ Some t) (c : IsCleaning t) (step : Step) (reply : Reply) (image : Option Image) → IsUnits step → Allows f size w k step reply image
+      → Own f w k t step reply image (answered f w k step reply image)
   own_step k t there c (AskStep command) reply image unit a = absurd unit
   own_step k t there c TakeStep reply image unit a = absurd unit
   own_step k t there c ElectStep reply image unit a = absurd unit
@@ -212,7 +219,8 @@ module _ (f : Formats) (size : ℕ) (w : World) where
   own_step k t there c RaiseStep reply image unit (allowed.RaiseStale j im r apart same) = OnKeep (kept k t there c)
   own_step k t there c RaiseStep reply image unit (allowed.RaiseSpent j im r present spent same) = OnKeep (kept k t there c)
   own_step k t there c RaiseStep reply image unit (allowed.RaiseFails j im r same) =
-      OnFall refl (either_fallen k t there c (raised w k) w (has_text im (f.cluster.text (record_of (raised w k)))) (fallen_kept k t there c (raised w k) (raise_kept k t there c r.may.t r.may.out r.may.once)) (fallen_kept k t there c w (kept k t there c)))
+      OnFall refl
+      (either_fallen k t there c (raised w k) w (has_text im (f.cluster.text (record_of (raised w k)))) (fallen_kept k t there c (raised w k) (raise_kept k t there c r.may.t r.may.out r.may.once)) (fallen_kept k t there c w (kept k t there c)))
   own_step k t there c SettleStep reply image unit (allowed.Settling j im s same) = absurd (no_final k t there c s.t s.may.out s.info s.results s.made s.work)
   own_step k t there c SettleStep reply image unit (allowed.SettleStale j n u s im may apart same) = OnKeep (kept k t there c)
   own_step k t there c SettleStep reply image unit (allowed.SettleFails j im s same) = absurd (no_final k t there c s.t s.may.out s.info s.results s.made s.work)

@@ -1,6 +1,7 @@
 -- A cleanup that comes to its end was told a first page.
 use Rattle.std.proofs.Common.{◌≡◌, ◌≢◌, ◌⊎◌, ℕ, true, false, true≢false, List, [], ◌∷◌, ◌++◌, Option, Some, refl, sym, ap, ◌∙◌, subst, inl, inr}
 use Rattle.std.specs.FinMap as fin
+use Rattle.std.proofs.lemmas.Option.{same_Some}
 use Rattle.esr_model.specs.Values.{Has, Formats}
 use Rattle.esr_model.specs.Cleanup.{last_text}
 use Rattle.esr_model.specs.Image.{Image}
@@ -15,7 +16,6 @@ use Rattle.esr_core.specs.Allowed.{Allows, Allowed, HasCleaned, SameBlobs}
 use Rattle.esr_core.specs.History.{world_from, IsLegal}
 use Rattle.esr_core.specs.Cleaned.{IsFirstPage, IsLastDrop}
 use Rattle.esr_law.specs.Cleanups.{IsGivenCleanup, HasFirstPage, IsEndedCleanup}
-use Rattle.esr_law.proofs.Maps.{some_same}
 use Rattle.esr_law.proofs.OwnSteps.{IsCleaning, Own, OnKeep, OnPage, OnSettle, OnFall}
 use Rattle.esr_law.proofs.Turns.{StepLaws, Turned, OnBlock, OnOther, OnOwn, fresh, turned, cleaning_on, handed_out, cleaning_given}
 
@@ -47,7 +47,8 @@ pub record IsDropped (f : Formats) (w : World) (m : Moment) (k : ℕ) (t : Ticke
 
 pub dropped : (f : Formats) (size : ℕ) (w : World) (m : Moment) (k : ℕ) (t : Ticket) → Allowed f size w m → IsLastDrop m k → fin.get w.tickets k ≡ Some t → IsCleaning t → IsDropped f w m k t
 dropped f size w m k t a last there c = elim a.answered [
-  | inl alive ↦ by alive.0 (drops_by (subst (λ (x : Reply). Allows f size w k DroppedStep x m.image) last.reply (subst (λ (x : Step). Allows f size w k x m.entry.reply m.image) last.step (subst (λ (x : ℕ). Allows f size w x m.entry.step m.entry.reply m.image) last.who alive.1))))
+  | inl alive ↦ by alive.0 (drops_by (subst (λ (x : Reply). Allows f size w k DroppedStep x m.image) last.reply
+      (subst (λ (x : Step). Allows f size w k x m.entry.reply m.image) last.step (subst (λ (x : ℕ). Allows f size w x m.entry.step m.entry.reply m.image) last.who alive.1))))
   | inr dead ↦ absurd (not_ended dead.refusal (sym last.reply ∙ dead.refused))
 ]
   where
@@ -62,7 +63,7 @@ dropped f size w m k t a last there c = elim a.answered [
         }
       where
         one : d.may.t ≡ t
-        one = some_same d.may.t t (sym d.may.out.there ∙ there)
+        one = same_Some d.may.t t (sym d.may.out.there ∙ there)
 
         no_drop : Deleting c.uuids c.plan ≡ Drop → ⊥
         no_drop e = cc
@@ -88,7 +89,7 @@ module _ (f : Formats) (size : ℕ) (laws : StepLaws f size) where
           record {
             v = v;
             at = at;
-            cleaning = subst IsCleaning (some_same stays.0 v (sym stays.1 ∙ at)) (cleaning_on t stays.0 stays.2 c);
+            cleaning = subst IsCleaning (same_Some stays.0 v (sym stays.1 ∙ at)) (cleaning_on t stays.0 stays.2 c);
             unbegun = record { listed = listed ∙ un.listed; whole = whole ∙ un.whole; settled = settled ∙ un.settled };
           }
 
@@ -131,7 +132,8 @@ legal_front : (f : Formats) (size : ℕ) (w : World) (xs : List Moment) (m : Mom
 legal_front f size w [] m ys legal = (tt, legal.0)
 legal_front f size w (x ∷ xs) m ys legal = let r = legal_front f size (after f w x) xs m ys legal.1 in ((legal.0, r.0), r.1)
 
-pub listed_first : (f : Formats) (size : ℕ) → StepLaws f size → (w : World) (before rest : List Moment) (last : Moment) (k : ℕ) → Tracked w → ReadTracked w → IsLegal f size w (before ++ last ∷ rest) → IsEndedCleanup before last k → HasFirstPage before k
+pub listed_first : (f : Formats) (size : ℕ) → StepLaws f size → (w : World) (before rest : List Moment) (last : Moment) (k : ℕ) → Tracked w → ReadTracked w → IsLegal f size w (before ++ last ∷ rest) → IsEndedCleanup before last k
+    → HasFirstPage before k
 listed_first f size laws w before rest last k tracked reads legal e =
     let parts = legal_front f size w before last rest legal in
     page_from f size laws before w tracked reads parts.0 k e.given e.there e.gives (λ v there c. (dropped f size (world_from f w before) last k v parts.1 e.drop there c).cleaned.settled)

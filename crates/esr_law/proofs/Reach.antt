@@ -2,6 +2,7 @@
 use Rattle.std.proofs.Common.{◌≡◌, ◌≢◌, ◌⊎◌, ℕ, zero, suc, Bool, true, false, List, [], ◌∷◌, refl, sym, ap, ◌∙◌, subst, inl, inr}
 use Rattle.std.specs.Prelude.{leb, if◌then◌else◌}
 use Rattle.std.proofs.lemmas.Bool.Decides.{eqb_tells}
+use Rattle.std.proofs.lemmas.Option.{same_Some}
 use Rattle.esr_model.specs.Lists.{pairs_has}
 use Rattle.esr_model.specs.Names.{BlobName, Root, IndexMeta, Snap, Meta, ShardSnap, ShardIndex, File}
 use Rattle.esr_model.specs.Values.{Bytes, Has, RootSnap, RootIndex, RootData, FileEntry, Kind, Formats}
@@ -13,7 +14,6 @@ use Rattle.esr_core.specs.World.{World, HeldIn}
 use Rattle.esr_core.specs.Ids.{Law}
 use Rattle.esr_core.specs.Allowed.{InReach}
 use Rattle.esr_law.specs.Reach.{RefusesUnlisted, IsUnlistedMeta, HoldsListedReach, HoldsReach}
-use Rattle.esr_law.proofs.Maps.{some_same}
 
 -- the uuid is listed, or not
 abbrev IsListedIn : List RootSnap → ℕ → Type 0
@@ -36,11 +36,12 @@ module _ (f : Formats) (w : World) where
 
   -- a blob reads as one value
   one_value : {V : Type 0} (name : BlobName) (kind : Kind V) (a b : V) → Reads (HeldIn f w) name kind a → Reads (At f w.blobs) name kind b → a ≡ b
-  one_value name kind a b held there = some_same a b (sym held.reads ∙ ap kind.read (some_same held.bytes there.bytes (sym held.there.0.0 ∙ there.there.0)) ∙ there.reads)
+  one_value name kind a b held there = same_Some a b (sym held.reads ∙ ap kind.read (same_Some held.bytes there.bytes (sym held.there.0.0 ∙ there.there.0)) ∙ there.reads)
 
   -- what else is known of the snapshots of its indices
   reached_there : (root : RootData) (shelf : List Shelved) → RootStands f (HeldIn f w) root shelf → (Q : BlobName → Type 0)
-      → ((x : RootIndex) (u : ℕ) → Has root.indices x → Has x.snapshots u → ((s : RootSnap) × Has root.snapshots s × (s.uuid ≡ u)) ⊎ Q (IndexMeta x.id u)) → (name : BlobName) → Reached f (At f w.blobs) root name → Present f w.blobs name ⊎ Q name
+      → ((x : RootIndex) (u : ℕ) → Has root.indices x → Has x.snapshots u → ((s : RootSnap) × Has root.snapshots s × (s.uuid ≡ u)) ⊎ Q (IndexMeta x.id u)) → (name : BlobName) → Reached f (At f w.blobs) root name
+      → Present f w.blobs name ⊎ Q name
   reached_there root shelf stands Q known name reached = by name reached
     where
       of : (s : RootSnap) → Has root.snapshots s → (x : Shelved) × SnapStands f (HeldIn f w) root s x
@@ -79,7 +80,8 @@ module _ (f : Formats) (w : World) where
       let one : picked.root ≡ w.root = one_value (Root n) f.root picked.root w.root picked.root_reads (record { bytes = reads.bytes; there = reads.there.0; reads = reads.reads }) in
       (reads, subst (λ (r : RootData). RootStands f (HeldIn f w) r shelf) one picked.stands)
 
-  in_reach_there : (shelf : List Shelved) → Law f w shelf → (Q : BlobName → Type 0) → ((n : ℕ) → w.safe ≡ suc n → (x : RootIndex) (u : ℕ) → Has w.root.indices x → Has x.snapshots u → ((s : RootSnap) × Has w.root.snapshots s × (s.uuid ≡ u)) ⊎ Q (IndexMeta x.id u))
+  in_reach_there : (shelf : List Shelved) → Law f w shelf → (Q : BlobName → Type 0)
+      → ((n : ℕ) → w.safe ≡ suc n → (x : RootIndex) (u : ℕ) → Has w.root.indices x → Has x.snapshots u → ((s : RootSnap) × Has w.root.snapshots s × (s.uuid ≡ u)) ⊎ Q (IndexMeta x.id u))
       → (name : BlobName) → InReach f w name → Present f w.blobs name ⊎ Q name
   in_reach_there shelf l Q known name (n, safe, h) =
       let root = safe_stands shelf l n safe in

@@ -1,5 +1,5 @@
 -- How far each step takes the term, the next generation and the next id, and where they are spent.
-use Rattle.std.proofs.Common.{◌≡◌, ◌⊎◌, ℕ, zero, suc, ◌+◌, ◌^◌, ◌≤◌, List, [], ◌∷◌, Bool, true, false, Option, Some, None, refl, sym, ap, ◌∙◌, subst, inl, inr, arith}
+use Rattle.std.proofs.Common.{◌≡◌, ◌⊎◌, ℕ, zero, suc, ◌+◌, ◌^◌, ◌≤◌, List, [], ◌∷◌, Bool, true, false, Option, Some, None, refl, sym, ap, ◌∙◌, subst, inl, inr, arith, le-add_right, le_refl}
 use Rattle.std.specs.Prelude.{◌*◌, if◌then◌else◌}
 use Rattle.std.specs.FinMap as fin
 use Rattle.esr_model.specs.Names.{BlobName}
@@ -22,12 +22,6 @@ use Rattle.esr_law.specs.Spent.{terms_by, generations_by, terms_in, generations_
 use Rattle.esr_law.proofs.Turns.{blocked_leaves}
 
 -- ---- numbers
-
-le_plus : (a b : ℕ) → a ≤ a + b
-le_plus a b = omega arith
-
-same_le : (a : ℕ) → a ≤ a
-same_le a = omega arith
 
 next_one : (n : ℕ) → suc n ≡ n + 1
 next_one n = omega arith
@@ -87,8 +81,8 @@ either_same w x y false p q = q
 counts_kept : (w : World) (terms : ℕ) (step : Step) (new : World) → SameNumbers w new → Counts w terms step new
 counts_kept w terms step new h =
     record {
-      term = subst (λ (n : ℕ). n ≤ w.term + terms) (sym h.term) (le_plus w.term terms);
-      pending = subst (λ (n : ℕ). n ≤ w.pending + generations_by step) (sym h.pending) (le_plus w.pending (generations_by step));
+      term = subst (λ (n : ℕ). n ≤ w.term + terms) (sym h.term) (le-add_right w.term terms);
+      pending = subst (λ (n : ℕ). n ≤ w.pending + generations_by step) (sym h.pending) (le-add_right w.pending (generations_by step));
       ids = λ c below.
           subst (λ (t : ℕ). new.next_id ≤ first_id t + (c + ids_by step)) (sym h.term)
           (subst (λ (n : ℕ). n ≤ first_id w.term + (c + ids_by step)) (sym h.next) (held_on (first_id w.term) w.next_id c (ids_by step) below));
@@ -98,8 +92,8 @@ counts_kept w terms step new h =
 counts_drawn : (w : World) (terms : ℕ) (step : Step) (new : World) (n : ℕ) → new.term ≡ w.term → new.pending ≡ w.pending → new.next_id ≡ w.next_id + n → n ≤ ids_by step → Counts w terms step new
 counts_drawn w terms step new n term pending next few =
     record {
-      term = subst (λ (m : ℕ). m ≤ w.term + terms) (sym term) (le_plus w.term terms);
-      pending = subst (λ (m : ℕ). m ≤ w.pending + generations_by step) (sym pending) (le_plus w.pending (generations_by step));
+      term = subst (λ (m : ℕ). m ≤ w.term + terms) (sym term) (le-add_right w.term terms);
+      pending = subst (λ (m : ℕ). m ≤ w.pending + generations_by step) (sym pending) (le-add_right w.pending (generations_by step));
       ids = λ c below.
           subst (λ (t : ℕ). new.next_id ≤ first_id t + (c + ids_by step)) (sym term)
           (subst (λ (m : ℕ). m ≤ first_id w.term + (c + ids_by step)) (sym next) (drawn_on (first_id w.term) w.next_id c n (ids_by step) below few));
@@ -217,7 +211,7 @@ module _ (f : Formats) (asks : AsksFew f) (w : World) where
 
   -- who 0 draws an id for a verification
   read_counts : (k : ℕ) (read : Read) (reply : Reply) (image : Option Image) → Counts w 0 (ReadStep read) (read_by f w k read reply image)
-  read_counts zero DrawTest (DrawnFrom first) image = counts_drawn w 0 (ReadStep DrawTest) (record w { next_id = suc w.next_id }) 1 refl refl (next_one w.next_id) (same_le 1)
+  read_counts zero DrawTest (DrawnFrom first) image = counts_drawn w 0 (ReadStep DrawTest) (record w { next_id = suc w.next_id }) 1 refl refl (next_one w.next_id) (le_refl 1)
   read_counts zero (CommitTest name) WasDone image = counts_kept w 0 (ReadStep (CommitTest name)) (record w { doomed = name ∷ w.doomed }) (record { term = refl; pending = refl; next = refl })
   read_counts zero read reply image = counts_kept w 0 (ReadStep read) w (same_numbers w)
   read_counts (suc k) read reply image = counts_kept w 0 (ReadStep read) (read_step f w (suc k) read reply image) (read_step_same (suc k) read reply image)
@@ -229,7 +223,7 @@ module _ (f : Formats) (asks : AsksFew f) (w : World) where
   prune_counts : (k : ℕ) (prune : Prune) (reply : Reply) (image : Option Image) → Counts w 0 (PruneStep prune) (prune_step f w k prune reply image)
   prune_counts k (FetchShard name) WasFetched image = counts_kept w 0 (PruneStep (FetchShard name)) _ (given_same k (fetching name (told_blob f image name)) (fin.get w.tickets k))
   prune_counts k (FetchShard name) reply image = counts_kept w 0 (PruneStep (FetchShard name)) w (same_numbers w)
-  prune_counts k (PlanShards shards) reply image = draw_counts k (PruneStep (PlanShards shards)) (planned f shards w.next_id) (kept_count shards) (fin.get w.tickets k) (same_le (kept_count shards))
+  prune_counts k (PlanShards shards) reply image = draw_counts k (PruneStep (PlanShards shards)) (planned f shards w.next_id) (kept_count shards) (fin.get w.tickets k) (le_refl (kept_count shards))
   prune_counts k SettlePruned reply image = counts_kept w 0 (PruneStep SettlePruned) _ (delete_settled_same k (fin.get w.tickets k))
   prune_counts k (RemoveDoomed names) reply image = counts_kept w 0 (PruneStep (RemoveDoomed names)) w (same_numbers w)
   prune_counts k EndDelete reply image = counts_kept w 0 (PruneStep EndDelete) _ (given_same k (λ t. record t { out = false }) (fin.get w.tickets k))
@@ -242,14 +236,14 @@ module _ (f : Formats) (asks : AsksFew f) (w : World) where
       record { term = same.term; pending = up_one w.pending; ids = same.ids }
 
   elect_counts : Counts w 1 ElectStep (record w { term = suc w.term; next_id = first_id (suc w.term) })
-  elect_counts = record { term = up_one w.term; pending = le_plus w.pending 0; ids = λ c below. le_plus (first_id (suc w.term)) (c + 0) }
+  elect_counts = record { term = up_one w.term; pending = le-add_right w.pending 0; ids = λ c below. le-add_right (first_id (suc w.term)) (c + 0) }
 
   done_counts : (k : ℕ) (step : Step) (reply : Reply) (image : Option Image) → Counts w (terms_by 0 step) step (done_step f w k step reply image)
   done_counts k (AskStep command) reply image =
       let few : DrawsFew w (AskStep command) (done_step f w k (AskStep command) reply image) = asks w k command reply image in
       counts_drawn w 0 (AskStep command) (done_step f w k (AskStep command) reply image) few.count few.term few.pending few.next few.few
   done_counts k TakeStep (Gave ticket op unit) image = counts_kept w 0 TakeStep _ (taken_same op unit (fin.get w.ops op))
-  done_counts k (DrawStep n) reply image = draw_counts k (DrawStep n) (λ t. record t { first = w.next_id; drawn = n }) n (fin.get w.tickets k) (same_le n)
+  done_counts k (DrawStep n) reply image = draw_counts k (DrawStep n) (λ t. record t { first = w.next_id; drawn = n }) n (fin.get w.tickets k) (le_refl n)
   done_counts k (CommitStep name) WasDone image = counts_kept w 0 (CommitStep name) _ (given_same k (committing name (told_blob f image name)) (fin.get w.tickets k))
   done_counts k (CommitStep name) WasThere image = counts_kept w 0 (CommitStep name) _ (given_same k (λ t. noting t name) (fin.get w.tickets k))
   done_counts k LatestStep reply image = counts_kept w 0 LatestStep _ (tried_same k)
@@ -318,7 +312,8 @@ none_le a b e = let none : a ≡ 0 = e in omega (arith, none)
 step_counts : (f : Formats) (size : ℕ) → AsksFew f → ((w : World) (m : Moment) → Allowed f size w m → Maker w m.entry.who m.entry.step ⊎ IsBlocked w m) → (w : World) (m : Moment) → Allowed f size w m
     → Counts w (terms_by m.entry.who m.entry.step) m.entry.step (after f w m)
 step_counts f size asks maker w m a = elim (maker w m a) [
-  | inl made ↦ after_counts (fewer_terms w (answered f w m.entry.who m.entry.step m.entry.reply m.image) m.entry.step (terms_by 0 m.entry.step) (terms_by m.entry.who m.entry.step) (few made) (answered_counts f asks w m.entry.who m.entry.step m.entry.reply m.image))
+  | inl made ↦ after_counts
+      (fewer_terms w (answered f w m.entry.who m.entry.step m.entry.reply m.image) m.entry.step (terms_by 0 m.entry.step) (terms_by m.entry.who m.entry.step) (few made) (answered_counts f asks w m.entry.who m.entry.step m.entry.reply m.image))
   | inr blocked ↦ after_counts (counts_kept w (terms_by m.entry.who m.entry.step) m.entry.step (answered f w m.entry.who m.entry.step m.entry.reply m.image) (subst (SameNumbers w) (sym (blocked_leaves f w m blocked)) (same_numbers w)))
 ]
   where
@@ -327,7 +322,7 @@ step_counts f size asks maker w m a = elim (maker w m a) [
     after_counts h = record { term = h.term; pending = h.pending; ids = h.ids }
 
     few : Maker w m.entry.who m.entry.step → terms_by 0 m.entry.step ≤ terms_by m.entry.who m.entry.step
-    few (ClientStep nobody own) = subst (λ (who : ℕ). terms_by 0 m.entry.step ≤ terms_by who m.entry.step) (sym nobody) (same_le (terms_by 0 m.entry.step))
+    few (ClientStep nobody own) = subst (λ (who : ℕ). terms_by 0 m.entry.step ≤ terms_by who m.entry.step) (sym nobody) (le_refl (terms_by 0 m.entry.step))
     few (ReaderStep q reading own) = none_le (terms_by 0 m.entry.step) (terms_by m.entry.who m.entry.step) (reader_elects_none m.entry.step own)
     few (UnitStep t out own) = none_le (terms_by 0 m.entry.step) (terms_by m.entry.who m.entry.step) (unit_elects_none m.entry.step own)
 
@@ -394,7 +389,8 @@ here_from w c m log below (GenerationsSpent pending) h = reached_more (2 ^ 63) w
 here_from w c m log below (IdsSpent next) h = term_spent w.term w.next_id c h.0 (ids_by m.entry.step) (ids_in log) h.2 below h.1
 here_from w c m log below refusal h = tt
 
-later_from : (w new : World) (c : ℕ) (m : Moment) (log : List Moment) → Counts w (terms_by m.entry.who m.entry.step) m.entry.step new → (refusal : Refusal) → SpentFrom new (c + ids_by m.entry.step) log refusal → SpentFrom w c (m ∷ log) refusal
+later_from : (w new : World) (c : ℕ) (m : Moment) (log : List Moment) → Counts w (terms_by m.entry.who m.entry.step) m.entry.step new → (refusal : Refusal) → SpentFrom new (c + ids_by m.entry.step) log refusal
+    → SpentFrom w c (m ∷ log) refusal
 later_from w new c m log counts (TermsSpent term) h = reached_on (2 ^ 63) new.term w.term (terms_by m.entry.who m.entry.step) (terms_in log) counts.term h
 later_from w new c m log counts (GenerationsSpent pending) h = reached_on (2 ^ 63) new.pending w.pending (generations_by m.entry.step) (generations_in log) counts.pending h
 later_from w new c m log counts (IdsSpent next) h = counted_on (2 ^ 64) c (ids_by m.entry.step) (ids_in log) h

@@ -1,19 +1,19 @@
 -- A step beside the ticket of a cleanup: it is blocked, another's or the ticket's own.
-use Rattle.std.proofs.Common.{◌≡◌, ◌≢◌, ◌⊎◌, ℕ, suc, ◌<◌, ◌≤◌, [], false, Option, Some, None, refl, sym, ap, ◌∙◌, inl, inr, arith}
+use Rattle.std.proofs.Common.{◌≡◌, ◌≢◌, ◌⊎◌, ℕ, suc, ◌<◌, ◌≤◌, [], false, Some, None, refl, sym, ap, ◌∙◌, inl, inr, arith}
 use Rattle.std.proofs.lemmas.Bool.Decides.{eqb_tells}
 use Rattle.std.specs.FinMap as fin
 use Rattle.esr_core.specs.Laws.NumberMaps.{same_in}
 use Rattle.esr_model.specs.Values.{Formats}
-use Rattle.esr_model.specs.Image.{Image}
 use Rattle.esr_core.specs.World.{World, Ticket}
 use Rattle.esr_core.specs.Turns.{cleaning_ticket}
 use Rattle.esr_core.specs.Tracked.{Tracked}
 use Rattle.esr_core.specs.ReadTracked.{ReadTracked}
 use Rattle.esr_core.specs.Changes.{IsUnits, SameUnit, StepFrame, Maker, ClientStep, ReaderStep, UnitStep}
 use Rattle.esr_core.specs.Causes.{TakeGave}
-use Rattle.esr_core.specs.Entry.{Given, GivenCleanup, Step, TakeStep, Refusal, Refused, Reply, Gave, Moment}
+use Rattle.esr_core.specs.Entry.{Given, GivenCleanup, Step, TakeStep, Reply, Gave, Moment}
 use Rattle.esr_core.specs.After.{answered, after}
-use Rattle.esr_core.specs.Allowed.{Blocks, ByFailedSwap, ByDelete, IsBlocked, Allows, Allowed}
+use Rattle.esr_core.specs.Allowed.{IsBlocked, Allows, Allowed}
+use Rattle.esr_core.specs.Laws.Asides.{block_leaves}
 use Rattle.esr_law.specs.Cleanups.{IsGivenCleanup}
 use Rattle.esr_law.proofs.OwnSteps.{IsCleaning, Own, own_step}
 
@@ -24,11 +24,6 @@ pub record StepLaws (f : Formats) (size : ℕ) : Type 0 where
   pub frame : (w : World) (m : Moment) → StepFrame w (after f w m) m.entry.who m.entry.step
   pub maker : (w : World) (m : Moment) → Allowed f size w m → Maker w m.entry.who m.entry.step ⊎ IsBlocked w m
   pub gave : (w : World) (m : Moment) (k o : ℕ) (unit : Given) → Allowed f size w m → m.entry.reply ≡ Gave k o unit → TakeGave f w m.entry.who m.entry.step k o unit
-
--- a step that was refused before it was looked at changes no ticket
-block_leaves : (f : Formats) (w : World) (who : ℕ) (step : Step) (refusal : Refusal) (image : Option Image) → Blocks w who step refusal → answered f w who step (Refused refusal) image ≡ w
-block_leaves f w who step refusal image (ByFailedSwap place dead) = refl
-block_leaves f w who step refusal image (ByDelete by alive aborted) = refl
 
 pub blocked_leaves : (f : Formats) (w : World) (m : Moment) → IsBlocked w m → answered f w m.entry.who m.entry.step m.entry.reply m.image ≡ w
 blocked_leaves f w m b = ap (λ (r : Reply). answered f w m.entry.who m.entry.step r m.image) b.refused ∙ block_leaves f w m.entry.who m.entry.step b.refusal m.image b.blocks

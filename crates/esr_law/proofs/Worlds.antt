@@ -1,5 +1,5 @@
 -- What is known of each world of a told history from a kept image on.
-use Rattle.std.proofs.Common.{◌≡◌, ℕ, List, [], ◌∷◌, ◌++◌, Some, refl, sym, subst, append_assoc}
+use Rattle.std.proofs.Common.{◌≡◌, ℕ, List, [], ◌∷◌, ◌++◌, Some, sym, subst, append_assoc}
 use Rattle.esr_model.specs.Values.{Formats}
 use Rattle.esr_model.specs.Image.{Image}
 use Rattle.esr_model.specs.Shelf.{Shelved}
@@ -11,6 +11,7 @@ use Rattle.esr_core.specs.Entry.{Moment}
 use Rattle.esr_core.specs.After.{after}
 use Rattle.esr_core.specs.Allowed.{Allowed}
 use Rattle.esr_core.specs.History.{world_from, IsLegal, AreTold}
+use Rattle.esr_core.specs.Laws.Histories.{world_parts}
 
 -- of a world
 pub record Known (f : Formats) (w : World) : Type 0 where
@@ -35,10 +36,6 @@ Along f size w (m ∷ log) = KnownStep f size w m × Along f size (after f w m) 
 pub record Tells (f : Formats) (size : ℕ) (w : World) (log : List Moment) : Type 0 where
   pub legal : IsLegal f size w log
   pub told : AreTold log
-
-pub world_parts : (f : Formats) (xs ys : List Moment) (w : World) → world_from f w (xs ++ ys) ≡ world_from f (world_from f w xs) ys
-world_parts f [] ys w = refl
-world_parts f (x ∷ xs) ys w = world_parts f xs ys (after f w x)
 
 -- what is known of both parts
 known_here : (f : Formats) (size : ℕ) (log : List Moment) (w : World) → Along f size w log → Known f w
@@ -72,7 +69,8 @@ module _ (f : Formats) (size : ℕ) (w : World) (tracks : (w : World) (m : Momen
       let next : world_from f w (xs ++ m ∷ []) ≡ after f (world_from f w xs) m = world_parts f xs (m ∷ []) w in (
         record { known = record { shelf = l.0; law = l.1; tracked = tracked; reads = its_reads }; legal = step.legal.0; image = step.told.0.0; told = step.told.0.1 },
         subst (λ (x : World). Along f size x ys) next
-            (along_from ys (xs ++ m ∷ []) (subst (Tells f size w) (sym (append_assoc xs (m ∷ []) ys)) h) (subst Tracked (sym next) (tracks (world_from f w xs) m tracked step.legal.0)) (subst ReadTracked (sym next) (reads (world_from f w xs) m tracked its_reads step.legal.0))),
+            (along_from ys (xs ++ m ∷ []) (subst (Tells f size w) (sym (append_assoc xs (m ∷ []) ys)) h)
+            (subst Tracked (sym next) (tracks (world_from f w xs) m tracked step.legal.0)) (subst ReadTracked (sym next) (reads (world_from f w xs) m tracked its_reads step.legal.0))),
       )
 
   pub along : (log : List Moment) → Tells f size w log → Tracked w → ReadTracked w → Along f size w log

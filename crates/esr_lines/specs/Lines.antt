@@ -103,16 +103,16 @@ reply_text item (Failed why op) = codes " failed " ++ why_text why ++ op_text op
 reply_text item (Aborted by) = codes " aborted " ++ decimal by ++ codes "\n"
 reply_text item Deposed = codes " deposed\n"
 
--- the name that follows a command's verb, if one does
-abbrev pub name_text : Item → Text
-name_text (items.Snapshot name indices) = codes " " ++ name
-name_text (items.Clone source name indices) = codes " " ++ name
-name_text (items.Restore name place) = codes " " ++ name
-name_text item = []
+-- a space and the name that follows a command's verb, if one does
+abbrev pub name_after : Item → Text
+name_after (items.Snapshot name indices) = codes " " ++ name
+name_after (items.Clone source name indices) = codes " " ++ name
+name_after (items.Restore name place) = codes " " ++ name
+name_after item = []
 
 -- a command's beginning, its number aside
 unfoldable pub item_text : Item → Text
-item_text item = codes " " ++ verb_text item ++ name_text item
+item_text item = codes " " ++ verb_text item ++ name_after item
 
 unfoldable pub line_text : ScriptLine → Reply → Text
 line_text line reply = decimal line.number ++ item_text line.item ++ reply_text line.item reply

@@ -5,7 +5,7 @@ ghost use Rattle.esr_formats.specs.Names.{name_kind, name_of};
 ghost use Rattle.esr_formats.specs.Roots.{root_snap_of};
 ghost use Rattle.esr_desk.specs.Refusals.{refusal_of};
 ghost use Rattle.esr_desk.specs.Entries.{why_of};
-ghost use Rattle.esr_lines.specs.Lines.{why_text, name_at, index_at, refusal_text, state_text, snap_text, name_text, item_text, last_line};
+ghost use Rattle.esr_lines.specs.Lines.{why_text, name_at, index_at, refusal_text, state_text, snap_text, name_after, item_text, last_line};
 ghost use Rattle.esr_report.specs.Code.{ending_of};
 
 use esr_desk::{EntryRefusal, Why};
@@ -189,7 +189,7 @@ fn push_word(out: &mut Bytes, word: &str) -> Result<(), AllocError>
 
 /// Appends the name that follows a command's verb, if one does.
 fn push_name(out: &mut Bytes, item: &Item) -> Result<(), AllocError>
-    ensures { OnOk result (out.new ≡ out.old ++ name_text item.now) }
+    ensures { OnOk result (out.new ≡ out.old ++ name_after item.now) }
 {
     match item {
         Item::Snapshot { name, indices: _ } => push_word(out, name.as_str()),

@@ -5,18 +5,15 @@ use Rattle.std.specs.FinMap.{empty, insert, get, get-insert, get-empty}
 use Rattle.std.specs.Ordering.{nat_cmp}
 use Rattle.std.specs.Cmp.Lexicographic.{slice_cmp, nat_list_cmp_total}
 use Rattle.std.specs.List.{list_all}
+use Rattle.std.proofs.lemmas.Bool.{and_parts}
 use Rattle.esr_depot.specs.Image.{Blobs, blob}
 use Rattle.esr_memdepot.specs.Past.{is_named, is_there, held, found, last_text, image_now}
 use Rattle.esr_memdepot.specs.declared.blob.KeptBlob.{KeptBlob}
 use Rattle.esr_memdepot.specs.declared.text.KeptText.{KeptText}
 
-pub both : (a b : Bool) → (a && b) ≡ true → (a ≡ true) × (b ≡ true)
-both true b e = (refl, e)
-both false b e = absurd cc
-
 pub list_all-push : {A : Type 0} (p : A → Bool) (xs : List A) (x : A) → list_all p xs ≡ true → p x ≡ true → list_all p (xs ++ x ∷ []) ≡ true
 list_all-push p [] x all is = rw is refl
-list_all-push p (y ∷ xs) x all is = let b = both (p y) (list_all p xs) all in rw b.0 (list_all-push p xs x b.1 is)
+list_all-push p (y ∷ xs) x all is = let b = and_parts (p y) (list_all p xs) all in rw b.0 (list_all-push p xs x b.1 is)
 
 -- one more element of a list that a loop changes in place
 map_suc : {A : Type 0} (f : A → A) (xs : List A) (i : ℕ) (d : A) → i < length xs

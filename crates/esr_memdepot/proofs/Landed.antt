@@ -3,13 +3,14 @@ use Rattle.std.proofs.Common.{◌≡◌, inl, inr, ℕ, ◌+◌, ◌-◌, ◌^�
 use Rattle.std.proofs.lemmas.Bool.Decides.{nat_tests}
 use Rattle.std.specs.List.{list_all}
 use Rattle.std.specs.FinMap.{empty, insert}
+use Rattle.std.proofs.lemmas.Bool.{and_parts}
 use Rattle.esr_depot.specs.Image.{Image, with_blob, with_text}
 use Rattle.esr_depot.specs.Look.{now}
 use Rattle.esr_depot.specs.Calls.{up, Passed}
 use Rattle.esr_depot.specs.Changes.{Replaced, ReplaceMay, Swapped, SwapMay}
 use Rattle.esr_memdepot.specs.Past.{is_there, held, last_text, image_by, image_now, left_blob, left_text, image_left, kept, gone_by, is_dated, is_text_dated, all_dated}
 use Rattle.esr_memdepot.specs.MemDepot.{look_of}
-use Rattle.esr_memdepot.proofs.Held.{both, held-push, last_text-push, list_all-push}
+use Rattle.esr_memdepot.proofs.Held.{held-push, last_text-push, list_all-push}
 use Rattle.esr_memdepot.proofs.Dates.{Earlier, left_as_now, left_text_as_now, held_same, text_same, not_yet, text_not_yet, blobs_later, texts_later}
 use Rattle.esr_memdepot.proofs.Passing.{changes, passes}
 use Rattle.esr_memdepot.specs.declared.blob.KeptBlob.{KeptBlob}
@@ -52,7 +53,7 @@ module _ (t u s s' : ℕ) (ks ls : List KeptBlob) (xs : List KeptText) (name byt
     next = omega arith
 
     parts : (list_all (is_dated t) ks ≡ true) × (list_all (is_text_dated t) xs ≡ true)
-    parts = both (list_all (is_dated t) ks) (list_all (is_text_dated t) xs) all
+    parts = and_parts (list_all (is_dated t) ks) (list_all (is_text_dated t) xs) all
 
     pub landed_dated : all_dated u ls xs ≡ true
     landed_dated =
@@ -105,7 +106,7 @@ module _ (t u s s' : ℕ) (ks : List KeptBlob) (xs ys : List KeptText) (x : Kept
     follows = omega arith
 
     halves : (list_all (is_dated t) ks ≡ true) × (list_all (is_text_dated t) xs ≡ true)
-    halves = both (list_all (is_dated t) ks) (list_all (is_text_dated t) xs) all
+    halves = and_parts (list_all (is_dated t) ks) (list_all (is_text_dated t) xs) all
 
     pub swapped_dated : all_dated u ks ys ≡ true
     swapped_dated =

@@ -6,15 +6,15 @@ use Rattle.std.specs.Prelude.{All, Contains}
 use Rattle.std.specs.List.{list_all}
 use Rattle.std.specs.Option.{is_none}
 use Rattle.std.specs.FinMap.{empty, insert, remove}
+use Rattle.std.proofs.lemmas.Bool.{and_parts, cases_Bool}
 use Rattle.esr_depot.specs.Image.{Blobs, Image, without_names, without, drop_known}
 use Rattle.esr_depot.specs.Look.{now}
 use Rattle.esr_depot.specs.Calls.{up, Passed}
 use Rattle.esr_depot.specs.Changes.{Removed, RemoveMay}
 use Rattle.esr_memdepot.specs.MemDepot.{look_of}
 use Rattle.esr_memdepot.specs.Past.{is_named, is_there, held, marked, last_text, image_now, gone_later, left_blob, left_text, image_left, gone_by, is_dated, is_text_dated, all_dated, mark_each}
-use Rattle.esr_memdepot.proofs.Names.{cases, remove-empty, remove-put_same, remove-put_other, among, of_first}
-use Rattle.esr_memdepot.proofs.Held.{both}
-use Rattle.esr_memdepot.proofs.Dates.{Earlier, text_same, left_text_as_now, blobs_later, texts_later}
+use Rattle.esr_memdepot.proofs.Names.{remove-empty, remove-put_same, remove-put_other, among, of_first}
+use Rattle.esr_memdepot.proofs.Dates.{Earlier, text_same, left_text_as_now, blobs_later, texts_later, gone_as_now, came_before}
 use Rattle.esr_memdepot.proofs.Passing.{changes, passes}
 use Rattle.esr_memdepot.specs.declared.blob.Gone.{Gone}
 use Rattle.esr_memdepot.specs.declared.blob.KeptBlob.{KeptBlob}
@@ -36,8 +36,8 @@ module _ (n : List ℕ) (g : Gone) (k : KeptBlob) where
 
 -- a fact of the blob as it was and as it is when it is gone
 marked_has : (P : KeptBlob → Type 0) (n : List ℕ) (g : Gone) (k : KeptBlob) → P k → (is_there k ≡ true → P (record k { gone = Some g })) → P (marked n g k)
-marked_has P n g k old new = elim (cases (is_there k)) [
-  | inl a ↦ elim (cases (is_named n k)) [
+marked_has P n g k old new = elim (cases_Bool (is_there k)) [
+  | inl a ↦ elim (cases_Bool (is_named n k)) [
     | inl b ↦ subst P (sym (marked_yes n g k a b)) (new a)
     | inr b ↦ subst P (sym (marked_other n g k b)) old
   ]
@@ -50,8 +50,8 @@ marked_has P n g k old new = elim (cases (is_there k)) [
 step_now : (n : List ℕ) (g : Gone) (k : KeptBlob) (m : Blobs)
     → (if is_there (marked n g k) then insert (remove m n) (marked n g k).name (marked n g k).bytes else remove m n)
     ≡ remove (if is_there k then insert m k.name k.bytes else m) n
-step_now n g k m = elim (cases (is_there k)) [
-  | inl a ↦ elim (cases (is_named n k)) [
+step_now n g k m = elim (cases_Bool (is_there k)) [
+  | inl a ↦ elim (cases_Bool (is_named n k)) [
     | inl b ↦ rw (marked_yes n g k a b, a) (sym (remove-put_same m n k.name k.bytes b))
     | inr b ↦ rw (marked_other n g k b, a) (sym (remove-put_other m n k.name k.bytes b))
   ]
@@ -112,12 +112,9 @@ AllSeen : ℕ → Leaves → List KeptBlob → Type 0
 AllSeen t how [] = Unit {0}
 AllSeen t how (k ∷ ks) = Seen t how k × AllSeen t how ks
 
-after : (came t : ℕ) → nat_le came t ≡ true → (came == t + 1) ≡ false
-after came t le = grind (arith, nat_tests)
-
 left_seen : (t : ℕ) (how : Leaves) (k : KeptBlob) → Seen t how k → left_blob t how k ≡ is_there k
 left_seen t Old k s = rw s.came s.same
-left_seen t New k s = rw (after k.came t s.came, s.came) s.same
+left_seen t New k s = rw (came_before k.came t s.came, s.came) s.same
 left_seen t (First m) k s = rw s.came s.same
 
 held_seen : (t : ℕ) (how : Leaves) (ks : List KeptBlob) (m : Blobs) → AllSeen t how ks → held (left_blob t how) ks m ≡ held is_there ks m
@@ -125,7 +122,8 @@ unfolding AllSeen
 held_seen t how [] m all = refl
 held_seen t how (k ∷ ks) m all = rw (left_seen t how k all.0) (held_seen t how ks _ all.1)
 
-seen_marked : (t : ℕ) (how : Leaves) (n : List ℕ) (i : ℕ) (ks : List KeptBlob) → gone_later t how (Some (record { at = t + 1; place = i })) ≡ false → AllSeen t how ks → AllSeen t how (map (marked n (record { at = t + 1; place = i })) ks)
+seen_marked : (t : ℕ) (how : Leaves) (n : List ℕ) (i : ℕ) (ks : List KeptBlob) → gone_later t how (Some (record { at = t + 1; place = i })) ≡ false → AllSeen t how ks
+    → AllSeen t how (map (marked n (record { at = t + 1; place = i })) ks)
 unfolding AllSeen
 seen_marked t how n i [] is all = tt
 seen_marked t how n i (k ∷ ks) is all =
@@ -138,22 +136,13 @@ each_seen t how [] place ks is all = all
 each_seen t how (n ∷ names) place ks is all =
     each_seen t how names (place + 1) _ (λ i lt. is i (omega arith)) (seen_marked t how n place ks (is place (omega arith)) all)
 
-gone_before : (t : ℕ) (how : Leaves) (g : Gone) → nat_le g.at t ≡ true → gone_later t how (Some g) ≡ false
-gone_before t Old g le = grind (arith, nat_tests)
-gone_before t New g le = grind (arith, nat_tests)
-gone_before t (First m) g le = grind (arith, nat_tests)
-
-seen_of : (t : ℕ) (how : Leaves) (o : Option Gone) → gone_by t o ≡ true → gone_later t how o ≡ is_none o
-seen_of t how None by = refl
-seen_of t how (Some g) by = gone_before t how g by
-
 seen_dated : (t : ℕ) (how : Leaves) (ks : List KeptBlob) → list_all (is_dated t) ks ≡ true → AllSeen t how ks
 unfolding AllSeen
 seen_dated t how [] all = tt
 seen_dated t how (k ∷ ks) all =
-    let b = both (is_dated t k) (list_all (is_dated t) ks) all in
-    let d = both (nat_le k.came t) (gone_by t k.gone) b.0 in
-    (record { came = d.0; same = seen_of t how k.gone d.1 }, seen_dated t how ks b.1)
+    let b = and_parts (is_dated t k) (list_all (is_dated t) ks) all in
+    let d = and_parts (nat_le k.came t) (gone_by t k.gone) b.0 in
+    (record { came = d.0; same = gone_as_now t how k.gone d.1 }, seen_dated t how ks b.1)
 
 mark_each-append : (xs ys : List (List ℕ)) (at place : ℕ) (ks : List KeptBlob) → mark_each (xs ++ ys) at place ks ≡ mark_each ys at (place + length xs) (mark_each xs at place ks)
 mark_each-append [] ys at place ks = let e : place ≡ place + 0 = omega arith in ap (λ (p : ℕ). mark_each ys at p ks) e
@@ -230,7 +219,7 @@ module _ (t u s s' : ℕ) (ks ls : List KeptBlob) (xs : List KeptText) (names : 
     made = is ∙ ap (λ (m : ℕ). mark_each (take n names) m 0 ks) next
 
     parts : (list_all (is_dated t) ks ≡ true) × (list_all (is_text_dated t) xs ≡ true)
-    parts = both (list_all (is_dated t) ks) (list_all (is_text_dated t) xs) all
+    parts = and_parts (list_all (is_dated t) ks) (list_all (is_text_dated t) xs) all
 
     texts : (how : Leaves) → last_text (left_text t how) xs None ≡ last_text (λ x. x.stands) xs None
     texts how = text_same (left_text t how) (λ x. x.stands) (is_text_dated t) xs None (left_text_as_now t how) parts.1
@@ -252,13 +241,13 @@ module _ (t u s s' : ℕ) (ks ls : List KeptBlob) (xs : List KeptText) (names : 
 
     dated_marked : (name : List ℕ) (i : ℕ) (k : KeptBlob) → is_dated u k ≡ true → is_dated u (marked name (record { at = u; place = i }) k) ≡ true
     dated_marked name i k d =
-        let b = both (nat_le k.came u) (gone_by u k.gone) d in
+        let b = and_parts (nat_le k.came u) (gone_by u k.gone) d in
         let here : nat_le u u ≡ true = grind (arith, nat_tests) in
         marked_has (λ x. is_dated u x ≡ true) name (record { at = u; place = i }) k d (λ _. rw (b.0, here) refl)
 
     all_marked : (name : List ℕ) (i : ℕ) (l : List KeptBlob) → list_all (is_dated u) l ≡ true → list_all (is_dated u) (map (marked name (record { at = u; place = i })) l) ≡ true
     all_marked name i [] d = refl
-    all_marked name i (k ∷ l) d = let b = both (is_dated u k) (list_all (is_dated u) l) d in rw (dated_marked name i k b.0) (all_marked name i l b.1)
+    all_marked name i (k ∷ l) d = let b = and_parts (is_dated u k) (list_all (is_dated u) l) d in rw (dated_marked name i k b.0) (all_marked name i l b.1)
 
     each_dated : (ns : List (List ℕ)) (i : ℕ) (l : List KeptBlob) → list_all (is_dated u) l ≡ true → list_all (is_dated u) (mark_each ns u i l) ≡ true
     each_dated [] i l d = d

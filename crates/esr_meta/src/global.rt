@@ -4,10 +4,10 @@ ghost use Rattle.serde_json.specs.View.{view};
 ghost use Rattle.esr_json.specs.Steps.{Gives};
 ghost use Rattle.esr_meta.specs.Global.{global_of, global_from, global_data, global_text, IsGlobal};
 
-use esr_json::{Key, ReadRefusal, number, parse, write};
+use esr_json::{Key, ObjectBuilder, ReadRefusal, number, parse, write};
 use esr_names::{Id, SnapName, id_at, id_value, snap_name_at};
 use esr_seq::Bytes;
-use serde_json::{Value, json};
+use serde_json::Value;
 use std::alloc::{AllocError, Global};
 
 /// The global metadata of a snapshot: its moment, name and uuid.
@@ -46,7 +46,12 @@ fn global_value(alloc: Global, meta: &GlobalMeta) -> Result<Value, AllocError>
     ensures value { IfOk result (λ v. view v ≡ global_data meta.now) }
     ensures valid { IfOk result (λ _. IsGlobal meta.now) }
 {
-    json!(in alloc; {"moment": meta.moment, "name": meta.name.as_str(), "uuid": id_value(alloc, meta.uuid)?})
+    let value = ObjectBuilder::new(alloc)
+        .number("moment", meta.moment)?
+        .text("name", meta.name.as_str())?
+        .value("uuid", id_value(alloc, meta.uuid)?)?
+        .build();
+    Ok(value)
 }
 
 /// The text of global metadata, which reads as it.

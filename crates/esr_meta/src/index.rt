@@ -4,10 +4,10 @@ ghost use Rattle.serde_json.specs.View.{view};
 ghost use Rattle.esr_json.specs.Steps.{Gives};
 ghost use Rattle.esr_meta.specs.Index.{index_meta_of, index_meta_from, index_meta_data, index_meta_text, IsIndexMeta};
 
-use esr_json::{Key, ReadRefusal, number, parse, write};
+use esr_json::{Key, ObjectBuilder, ReadRefusal, number, parse, write};
 use esr_names::{Id, IndexName, id_at, id_value, index_name_at};
 use esr_seq::Bytes;
-use serde_json::{Value, json};
+use serde_json::Value;
 use std::alloc::{AllocError, Global};
 use std::marker::Model;
 
@@ -61,7 +61,13 @@ fn index_meta_value(alloc: Global, meta: &IndexMeta) -> Result<Value, AllocError
     ensures value { IfOk result (λ v. view v ≡ index_meta_data meta.now) }
     ensures valid { IfOk result (λ _. IsIndexMeta meta.now) }
 {
-    json!(in alloc; {"id": id_value(alloc, meta.id)?, "name": meta.name.as_str(), "shards": meta.shards, "uuid": id_value(alloc, meta.uuid)?})
+    let value = ObjectBuilder::new(alloc)
+        .value("id", id_value(alloc, meta.id)?)?
+        .text("name", meta.name.as_str())?
+        .number("shards", u64::from(meta.shards))?
+        .value("uuid", id_value(alloc, meta.uuid)?)?
+        .build();
+    Ok(value)
 }
 
 /// The text of an index's metadata, which reads as it.

@@ -4,12 +4,12 @@ ghost use Rattle.serde_json.specs.View.{view};
 ghost use Rattle.esr_json.specs.Steps.{Gives};
 ghost use Rattle.esr_meta.specs.Info.{info_of, info_from, info_data, info_text, IsInfo};
 
-use esr_json::{Key, ReadRefusal, number, parse, write};
+use esr_json::{Key, ObjectBuilder, ReadRefusal, number, parse, write};
 use esr_names::{
     Id, IndexRefs, SnapName, id_at, id_value, indices_at, indices_value, snap_name_at,
 };
 use esr_seq::Bytes;
-use serde_json::{Value, json};
+use serde_json::Value;
 use std::alloc::{AllocError, Global};
 use std::marker::Model;
 
@@ -72,7 +72,16 @@ fn info_value(alloc: Global, info: &SnapInfo) -> Result<Value, AllocError>
     ensures value { IfOk result (λ v. view v ≡ info_data info.now) }
     ensures valid { IfOk result (λ _. IsInfo info.now) }
 {
-    json!(in alloc; {"bytes": info.bytes, "files": info.files, "indices": indices_value(alloc, &info.indices)?, "moment": info.moment, "name": info.name.as_str(), "state": info.state, "uuid": id_value(alloc, info.uuid)?})
+    let value = ObjectBuilder::new(alloc)
+        .number("bytes", info.bytes)?
+        .number("files", info.files)?
+        .value("indices", indices_value(alloc, &info.indices)?)?
+        .number("moment", info.moment)?
+        .text("name", info.name.as_str())?
+        .number("state", u64::from(info.state))?
+        .value("uuid", id_value(alloc, info.uuid)?)?
+        .build();
+    Ok(value)
 }
 
 /// The text of a snapshot's info.

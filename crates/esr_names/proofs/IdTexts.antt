@@ -21,7 +21,8 @@ use Rattle.esr_names.specs.IdTextLaws.{id_text_decodes, length-id_text, id_of_de
 bytes_16 : (a b c d e f g h i j k l m o p q n : ℕ)
     → a < 256 → b < 256 → c < 256 → d < 256 → e < 256 → f < 256 → g < 256 → h < 256
     → i < 256 → j < 256 → k < 256 → l < 256 → m < 256 → o < 256 → p < 256 → q < 256
-    → n ≡ a * 1329227995784915872903807060280344576 + b * 5192296858534827628530496329220096 + c * 20282409603651670423947251286016 + d * 79228162514264337593543950336 + e * 309485009821345068724781056 + f * 1208925819614629174706176 + g * 4722366482869645213696 + h * 18446744073709551616 + i * 72057594037927936 + j * 281474976710656 + k * 1099511627776 + l * 4294967296 + m * 16777216 + o * 65536 + p * 256 + q
+    → n ≡ a * 1329227995784915872903807060280344576 + b * 5192296858534827628530496329220096 + c * 20282409603651670423947251286016 + d * 79228162514264337593543950336 + e * 309485009821345068724781056
+    + f * 1208925819614629174706176 + g * 4722366482869645213696 + h * 18446744073709551616 + i * 72057594037927936 + j * 281474976710656 + k * 1099511627776 + l * 4294967296 + m * 16777216 + o * 65536 + p * 256 + q
     → to_be_bytes w128 n ≡ a ∷ b ∷ c ∷ d ∷ e ∷ f ∷ g ∷ h ∷ i ∷ j ∷ k ∷ l ∷ m ∷ o ∷ p ∷ q ∷ []
 bytes_16 a b c d e f g h i j k l m o p q n a' b' c' d' e' f' g' h' i' j' k' l' m' o' p' q' is =
     let at_a : n / 1329227995784915872903807060280344576 % 256 ≡ a = omega arith in
@@ -42,7 +43,8 @@ bytes_16 a b c d e f g h i j k l m o p q n a' b' c' d' e' f' g' h' i' j' k' l' m
     let at_q : n % 256 ≡ q = omega arith in
     λ x. at_a x ∷ at_b x ∷ at_c x ∷ at_d x ∷ at_e x ∷ at_f x ∷ at_g x ∷ at_h x ∷ at_i x ∷ at_j x ∷ at_k x ∷ at_l x ∷ at_m x ∷ at_o x ∷ at_p x ∷ at_q x ∷ []
 
-sixteen : (bs : List ℕ) → length bs ≡ 16 → get_or bs 0 0 ∷ get_or bs 1 0 ∷ get_or bs 2 0 ∷ get_or bs 3 0 ∷ get_or bs 4 0 ∷ get_or bs 5 0 ∷ get_or bs 6 0 ∷ get_or bs 7 0 ∷ get_or bs 8 0 ∷ get_or bs 9 0 ∷ get_or bs 10 0 ∷ get_or bs 11 0 ∷ get_or bs 12 0 ∷ get_or bs 13 0 ∷ get_or bs 14 0 ∷ get_or bs 15 0 ∷ [] ≡ bs
+sixteen : (bs : List ℕ) → length bs ≡ 16 → get_or bs 0 0 ∷ get_or bs 1 0 ∷ get_or bs 2 0 ∷ get_or bs 3 0 ∷ get_or bs 4 0 ∷ get_or bs 5 0 ∷ get_or bs 6 0
+    ∷ get_or bs 7 0 ∷ get_or bs 8 0 ∷ get_or bs 9 0 ∷ get_or bs 10 0 ∷ get_or bs 11 0 ∷ get_or bs 12 0 ∷ get_or bs 13 0 ∷ get_or bs 14 0 ∷ get_or bs 15 0 ∷ [] ≡ bs
 sixteen [] len = absurd (omega arith)
 sixteen (a ∷ []) len = absurd (omega arith)
 sixteen (a ∷ b ∷ []) len = absurd (omega arith)
@@ -63,7 +65,8 @@ sixteen (a ∷ b ∷ c ∷ d ∷ e ∷ f ∷ g ∷ h ∷ i ∷ j ∷ k ∷ l ∷
 sixteen (a ∷ b ∷ c ∷ d ∷ e ∷ f ∷ g ∷ h ∷ i ∷ j ∷ k ∷ l ∷ m ∷ o ∷ p ∷ q ∷ more ∷ rest) len = absurd (omega arith)
 
 pub be_bytes_16 : (bs : List ℕ) (n : ℕ) → length bs ≡ 16 → ((i : ℕ) → get_or bs i 0 < 256) → n ≡ from_be_bytes w128 bs → to_be_bytes w128 n ≡ bs
-be_bytes_16 bs n l small is = bytes_16 _ _ _ _ _ _ _ _ _ _ _ _ _ _ _ _ n (small 0) (small 1) (small 2) (small 3) (small 4) (small 5) (small 6) (small 7) (small 8) (small 9) (small 10) (small 11) (small 12) (small 13) (small 14) (small 15) is ∙ sixteen bs l
+be_bytes_16 bs n l small is =
+    bytes_16 _ _ _ _ _ _ _ _ _ _ _ _ _ _ _ _ n (small 0) (small 1) (small 2) (small 3) (small 4) (small 5) (small 6) (small 7) (small 8) (small 9) (small 10) (small 11) (small 12) (small 13) (small 14) (small 15) is ∙ sixteen bs l
 
 -- decoding into a slice is decoding, where what it gives fits
 pub slice_ok : (lone rest : Option DecodeError) (full : Bool) (len out n : ℕ)

@@ -7,8 +7,8 @@ ghost use Rattle.esr_names.specs.NameRule.{snap_name_fault, index_name_fault};
 ghost use Rattle.esr_names.specs.Indices.{id_at, snap_name_at, index_name_at, ref_of, clashes, refs_from, indices_at, id_data, ref_data, indices_data, IsRef, AreRefs};
 
 use crate::{Id, IndexName, IndexRef, IndexRefs, NameRefusal, SnapName, id_read, id_text};
-use esr_json::{Key, ReadRefusal, Reason, items, number, text, text_value};
-use serde_json::{Value, json};
+use esr_json::{Key, ObjectBuilder, ReadRefusal, Reason, items, number, text, text_value};
+use serde_json::Value;
 use std::alloc::{AllocError, Global};
 
 /// A member that is the text of an id.
@@ -115,8 +115,12 @@ pub fn id_value(alloc: Global, id: Id) -> Result<Value, AllocError>
 fn ref_value(alloc: Global, index: &IndexRef) -> Result<Value, AllocError>
     ensures { IfOk result (λ v. view v ≡ ref_data index.now) }
 {
-    let id = id_value(alloc, index.id)?;
-    json!(in alloc; {"id": id, "name": index.name.as_str(), "shards": index.shards})
+    let value = ObjectBuilder::new(alloc)
+        .value("id", id_value(alloc, index.id)?)?
+        .text("name", index.name.as_str())?
+        .number("shards", u64::from(index.shards))?
+        .build();
+    Ok(value)
 }
 
 /// The value of the member `indices`.

@@ -16,11 +16,12 @@ use Rattle.esr_names.specs.declared.index_ref.IndexRef.{IndexRef}
 use Rattle.esr_root.specs.Indices.{by_name}
 use Rattle.esr_root.specs.Changes.{grown, first, with_index, with_each}
 use Rattle.esr_root.specs.declared.indices.RootIndex.{RootIndex as CodeIndex}
+use Rattle.esr_root.specs.NameOrder.{flipped}
 use Rattle.esr_formats.specs.Ids.{number_of}
 use Rattle.esr_formats.specs.Roots.{root_index_of}
 use Rattle.esr_model.specs.Values.{Bytes, RootIndex}
 use Rattle.esr_newroot.specs.Named.{index_named, ref_named}
-use Rattle.esr_newroot.specs.ByteTests.{named_so, differ, flipped}
+use Rattle.esr_newroot.specs.ByteTests.{named_so, differ}
 use Rattle.esr_newroot.proofs.Choices.{chosen, passed, same_names, other_names, equals, above}
 use Rattle.esr_newroot.proofs.Rising.{Rises, IsBelow, below_all, below_none}
 use Rattle.esr_newroot.specs.RefLists.{one_name}

@@ -19,7 +19,7 @@ use Rattle.esr_newroot.specs.ByteTests.{differ}
 use Rattle.esr_newroot.proofs.Choices.{chosen, passed, same_names, other_names}
 use Rattle.esr_newroot.proofs.Named.{some_is, none_some}
 
-abbrev numbers : List (Option Id) → List (Option ℕ)
+abbrev pub numbers : List (Option Id) → List (Option ℕ)
 numbers gs = map (option_map number_of) gs
 
 generation_number : (gs : List (Option Id)) (k : ℕ) → option_map number_of (generation_in gs k) ≡ at_shard (numbers gs) k

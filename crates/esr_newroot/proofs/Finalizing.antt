@@ -13,6 +13,7 @@ use Rattle.esr_root.specs.Indices.{AreIndices}
 use Rattle.esr_root.specs.Root.{Root}
 use Rattle.esr_root.specs.Changes.{add_of}
 use Rattle.esr_root.specs.declared.snaps.RootSnap.{RootSnap as CodeSnap}
+use Rattle.esr_root.specs.Lists.{all_weaken}
 use Rattle.esr_formats.specs.Refs.{ref_of_code}
 use Rattle.esr_formats.specs.Infos.{info_of_code}
 use Rattle.esr_formats.specs.Roots.{root_of, root_snap_of}
@@ -20,6 +21,7 @@ use Rattle.esr_core.specs.Tracked.{IsOneIndex}
 use Rattle.esr_model.specs.Values.{Bytes, Has, IndexRef, RootSnap, RootIndex, RootData, ShardResult}
 use Rattle.esr_model.specs.Places.{sorted_by}
 use Rattle.esr_model.specs.Finalize.{merged, ref_of, with_ref, has_id, new_indices, finalized_indices, named_first, finalized_root}
+use Rattle.esr_model.specs.Lists.{Has-map}
 use Rattle.esr_newroot.specs.NewRoot.{MayFinalize}
 use Rattle.esr_newroot.specs.Named.{index_named, ref_named, done_in, Becomes}
 use Rattle.esr_newroot.specs.ByteTests.{differ}
@@ -28,8 +30,8 @@ use Rattle.esr_newroot.proofs.Named.{named_has, has_named, named-append, named-m
 use Rattle.esr_newroot.proofs.Rising.{AreApart, apart_rising, same_rising, rises-sorted}
 use Rattle.esr_newroot.proofs.Merged.{merged-missing, merged-padded}
 use Rattle.esr_newroot.proofs.Added.{added, rises_of}
-use Rattle.esr_newroot.specs.RefLists.{one_name, all_weaken, names_distinct, ids_distinct}
-use Rattle.esr_newroot.proofs.Refs.{at_ref, ref_has, ref_none, ref_apart, has_of, id_none, id_some}
+use Rattle.esr_newroot.specs.RefLists.{one_name, names_distinct, ids_distinct}
+use Rattle.esr_newroot.proofs.Refs.{at_ref, ref_has, ref_none, ref_apart, id_none, id_some}
 use Rattle.esr_newroot.proofs.Growing.{olds, snap_is, grown_named}
 
 -- ---- the indices that come in
@@ -129,7 +131,7 @@ new_none info results old refs agrees x there = new_named info results old info.
     by_case None e = refl
     by_case (Some q) e =
         let found = ref_has x.name info.indices q e in
-        let one : q.id.number ≡ x.id = (agrees (ref_of_code q) x (has_of info.indices q found.1) there).one_id found.0 in
+        let one : q.id.number ≡ x.id = (agrees (ref_of_code q) x (Has-map ref_of_code info.indices q found.1) there).one_id found.0 in
         chosen None (Some (new_of info results q)) (subst (λ (id : ℕ). has_id old id ≡ true) (sym one) (id_there old x there))
 
 found_same : (info : Info) (results : List ShardResult) (old : List RootIndex) → AreRefs [] info.indices → Agrees info old → (name : Bytes) (r : Option CodeRef) (y : Option RootIndex)
@@ -141,7 +143,7 @@ found_same info results old refs agrees name None (Some x) er ey = ap Some (sym 
     other : (q : CodeRef) → Has info.indices q → q.id.number ≢ x.id
     other q there e =
         let found = named_has name old x ey in
-        ref_none name info.indices q er there ((agrees (ref_of_code q) x (has_of info.indices q there) found.1).one_name e ∙ found.0)
+        ref_none name info.indices q er there ((agrees (ref_of_code q) x (Has-map ref_of_code info.indices q there) found.1).one_name e ∙ found.0)
 
     none : ref_of (map ref_of_code info.indices) x.id ≡ None
     none = id_none x.id info.indices other
@@ -153,7 +155,7 @@ found_same info results old refs agrees name (Some q) None er ey = ap with_numbe
     other : (x : RootIndex) → Has old x → x.id ≢ q.id.number
     other x there e =
         let found = ref_has name info.indices q er in
-        let same : x.name ≡ name = sym ((agrees (ref_of_code q) x (has_of info.indices q found.1) there).one_name (sym e)) ∙ found.0 in
+        let same : x.name ≡ name = sym ((agrees (ref_of_code q) x (Has-map ref_of_code info.indices q found.1) there).one_name (sym e)) ∙ found.0 in
         has_named old x there (ap (λ (n : Bytes). index_named n old) same ∙ ey)
 found_same info results old refs agrees name (Some q) (Some x) er ey =
     ap Some (ap with_numbers numbers ∙ sym (ap (with_ref (info_of_code info) results x) own))
@@ -165,7 +167,7 @@ found_same info results old refs agrees name (Some q) (Some x) er ey =
     one =
         let found = ref_has name info.indices q er in
         let there = named_has name old x ey in
-        (agrees (ref_of_code q) x (has_of info.indices q found.1) there.1).one_id (found.0 ∙ sym there.0)
+        (agrees (ref_of_code q) x (Has-map ref_of_code info.indices q found.1) there.1).one_id (found.0 ∙ sym there.0)
 
     numbers : merged results q.id.number 0 (x.generations ++ replicate (q.shards - length x.generations) None) 0 ≡ merged results x.id 0 x.generations q.shards
     numbers = merged-padded results q.id.number 0 q.shards x.generations ∙ ap (λ (id : ℕ). merged results id 0 x.generations q.shards) one

@@ -19,13 +19,14 @@ use Rattle.esr_formats.specs.Infos.{info_of_code}
 use Rattle.esr_formats.specs.Roots.{root_of, root_snap_of, root_index_of}
 use Rattle.esr_core.specs.Tracked.{IsOneIndex}
 use Rattle.esr_model.specs.Values.{Bytes, Has, RootSnap, RootIndex, ShardResult}
+use Rattle.esr_model.specs.Lists.{Has-map}
 use Rattle.esr_newroot.specs.NewRoot.{MayFinalize}
 use Rattle.esr_newroot.specs.Named.{index_named, ref_named, IsReady}
 use Rattle.esr_newroot.specs.ByteTests.{named_so}
 use Rattle.esr_newroot.proofs.Choices.{same_names, other_names}
 use Rattle.esr_newroot.proofs.Added.{added, named-with_each}
 use Rattle.esr_newroot.specs.RefLists.{names_distinct, ids_distinct}
-use Rattle.esr_newroot.proofs.Refs.{all_has, refs_few, at_ref, ref_some, has_of}
+use Rattle.esr_newroot.proofs.Refs.{all_has, refs_few, at_ref, ref_some}
 use Rattle.esr_newroot.proofs.Shards.{each_shard}
 
 -- the indices of a root, as the definitions see them
@@ -59,7 +60,7 @@ may_add root info results snap refs may is =
       fresh = fresh_of info root.snapshots may.unlisted;
       names = names_distinct info.indices refs;
       ids = ids_distinct info.indices refs;
-      known = all_has (Fits root.indices) info.indices (λ q there. fits_of q root.indices (λ x h. may.indices (ref_of_code q) x (has_of info.indices q there) h));
+      known = all_has (Fits root.indices) info.indices (λ q there. fits_of q root.indices (λ x h. may.indices (ref_of_code q) x (Has-map ref_of_code info.indices q there) h));
       few = refs_few [] info.indices refs;
     })
 

@@ -4,11 +4,8 @@ use Rattle.std.proofs.lemmas.Bool.{cases_Bool, eqb-true, eq-eqb, true≢false, a
 use Rattle.esr_model.specs.Values.{ShardResult}
 use Rattle.esr_model.specs.Image.{at_shard}
 use Rattle.esr_model.specs.Finalize.{larger, done_at, merged}
+use Rattle.esr_core.specs.Laws.NewRoots.{larger_none}
 use Rattle.esr_newroot.proofs.Choices.{chosen, passed}
-
-pub larger_none : (g : Option ℕ) → larger g None ≡ g
-larger_none None = refl
-larger_none (Some g) = refl
 
 -- ---- a result more
 
@@ -39,7 +36,8 @@ merged-other r rs id k (g ∷ gs) other = rw (done_elsewhere r rs id k (λ e s. 
 pub merged-then : (r : ShardResult) (rs : List ShardResult) (id k : ℕ) (gs : List (Option ℕ)) → r.index ≡ id → done_at rs id r.shard ≡ None
     → merged (r ∷ rs) id k gs 0 ≡ merged rs id k (merged (r ∷ []) id k gs 0) 0
 merged-then r rs id k [] own only = refl
-merged-then r rs id k (g ∷ gs) own only = ap (λ (h : Option ℕ). h ∷ merged (r ∷ rs) id (suc k) gs 0) here ∙ ap (λ (hs : List (Option ℕ)). larger (larger g (done_at (r ∷ []) id k)) (done_at rs id k) ∷ hs) (merged-then r rs id (suc k) gs own only)
+merged-then r rs id k (g ∷ gs) own only =
+    ap (λ (h : Option ℕ). h ∷ merged (r ∷ rs) id (suc k) gs 0) here ∙ ap (λ (hs : List (Option ℕ)). larger (larger g (done_at (r ∷ []) id k)) (done_at rs id k) ∷ hs) (merged-then r rs id (suc k) gs own only)
   where
     here : larger g (done_at (r ∷ rs) id k) ≡ larger (larger g (done_at (r ∷ []) id k)) (done_at rs id k)
     here = elim (cases_Bool (r.shard == k)) [

@@ -1,11 +1,9 @@
 -- The root that a delete writes: the code's steps by the definitions' own.
 use Rattle.std.proofs.Common.{◌≡◌, ◌⊎◌, ℕ, zero, suc, ◌+◌, ◌-◌, ◌<◌, ◌≤◌, Bool, true, false, List, [], ◌∷◌, ◌++◌, length, map, set, drop, get_or, drop-cons, add-one, replicate, Option, None, option_map, refl, sym, ap, ◌∙◌, subst, arith, inl, inr}
 use Rattle.std.specs.Prelude.{not, filter, ◌==◌, if◌then◌else◌}
-use Rattle.std.specs.List.{AllByRecursion, IsDistinct, list_any}
-use Rattle.std.specs.List.Sorted.{IsStrictlySortedBy}
+use Rattle.std.specs.List.{list_any}
 use Rattle.std.specs.Cmp.{both_ways}
 use Rattle.std.specs.Str.{bytes_eq}
-use Rattle.std.specs.declared.cmp.Ordering.{Ordering}
 use Rattle.std.specs.declared.cmp.Ordering.TheVariants.{Less}
 use Rattle.std.proofs.lemmas.Bool.{cases_Bool, true≢false, eqb-true, eq-eqb}
 use Rattle.std.proofs.lemmas.List.{append-nil, length-map, length-set, map-set, drop_all}
@@ -21,9 +19,11 @@ use Rattle.esr_formats.specs.Ids.{number_of}
 use Rattle.esr_formats.specs.Roots.{root_of, root_snap_of, root_index_of}
 use Rattle.esr_model.specs.Values.{Bytes, Has, RootSnap, RootIndex, RootData}
 use Rattle.esr_model.specs.Delete.{names_uuid, left_snaps, PrunedShard, next_after, own_id, left_uuids, left_index, left_indices, left_root, fresh_in, set_fresh, renewed, deleted_root}
+use Rattle.esr_model.specs.Lists.{Has-map, apart_has, rising_has}
 use Rattle.esr_results.specs.declared.pruned.PrunedShard.{PrunedShard as CodePruned}
 use Rattle.esr_results.specs.Pruned.{pruned_of, IsPlaced, ArePlaced}
 use Rattle.esr_newroot.specs.ByteTests.{named_so, below}
+use Rattle.esr_newroot.proofs.Changed.{numbers}
 
 -- ---- without some snapshots
 
@@ -72,9 +72,6 @@ root_left r us = λ j. record { snapshots = snaps_left us r.snapshots j; indices
 
 -- ---- one shard
 
-abbrev numbers : List (Option Id) → List (Option ℕ)
-numbers gs = map (option_map number_of) gs
-
 with_to : (gs : List (Option Id)) (k : ℕ) (to : Option Id) → k < length (numbers gs) → numbers (with_generation gs k to) ≡ set (numbers gs) k (option_map number_of to)
 with_to gs k to low =
     let none : (k + 1) - length gs ≡ 0 = omega (arith, length-map gs (option_map number_of)) in
@@ -109,27 +106,6 @@ stays_each id k to (i ∷ is) h = λ j. sym (stays_one id k to (root_index_of i)
 
 -- ---- an index of the root has its name exactly where it has its id
 
-all_has : {A : Type 0} (P : A → Type 0) (xs : List A) (x : A) → AllByRecursion P xs → Has xs x → P x
-all_has P [] x h m = absurd m
-all_has P (y ∷ xs) x h (inl e) = subst P e h.0
-all_has P (y ∷ xs) x h (inr m) = all_has P xs x h.1 m
-
-apart_has : {A : Type 0} (e : A → A → Bool) (xs : List A) (x y : A) → IsDistinct e xs → Has xs x → Has xs y → (x ≡ y) ⊎ ((e x y ≡ false) ⊎ (e y x ≡ false))
-unfolding IsDistinct
-apart_has e [] x y apart none h = absurd none
-apart_has e (z ∷ zs) x y apart (inl a) (inl b) = inl (sym a ∙ b)
-apart_has e (z ∷ zs) x y apart (inl a) (inr b) = inr (inl (subst (λ w. e w y ≡ false) a (all_has (λ w. e z w ≡ false) zs y apart.0 b)))
-apart_has e (z ∷ zs) x y apart (inr a) (inl b) = inr (inr (subst (λ w. e w x ≡ false) b (all_has (λ w. e z w ≡ false) zs x apart.0 a)))
-apart_has e (z ∷ zs) x y apart (inr a) (inr b) = apart_has e zs x y apart.1 a b
-
-rising_has : {A : Type 0} (c : A → A → Ordering) (xs : List A) (x y : A) → IsStrictlySortedBy c xs → Has xs x → Has xs y → (x ≡ y) ⊎ ((c x y ≡ Less) ⊎ (c y x ≡ Less))
-unfolding IsStrictlySortedBy
-rising_has c [] x y rises none h = absurd none
-rising_has c (z ∷ zs) x y rises (inl a) (inl b) = inl (sym a ∙ b)
-rising_has c (z ∷ zs) x y rises (inl a) (inr b) = inr (inl (subst (λ w. c w y ≡ Less) a (all_has (λ w. c z w ≡ Less) zs y rises.0 b)))
-rising_has c (z ∷ zs) x y rises (inr a) (inl b) = inr (inr (subst (λ w. c w x ≡ Less) b (all_has (λ w. c z w ≡ Less) zs x rises.0 a)))
-rising_has c (z ∷ zs) x y rises (inr a) (inr b) = rising_has c zs x y rises.1 a b
-
 fits : (is : List CodeIndex) → AreIndices is → (i j : CodeIndex) → Has is i → Has is j → bytes_eq i.name j.name ≡ (i.id.number == j.id.number)
 fits is are i j a b =
     both_ways (bytes_eq i.name j.name) (i.id.number == j.id.number)
@@ -146,11 +122,6 @@ fits is are i j a b =
     by_id e (inr (inl other)) = absurd (true≢false (sym e ∙ other))
     by_id e (inr (inr other)) = absurd (true≢false (sym (eq-eqb j.id.number i.id.number (sym (eqb-true i.id.number j.id.number e))) ∙ other))
 
-has_index : (is : List CodeIndex) (i : CodeIndex) → Has is i → Has (map root_index_of is) (root_index_of i)
-has_index [] i m = absurd m
-has_index (x ∷ is) i (inl e) = inl (ap root_index_of e)
-has_index (x ∷ is) i (inr m) = inr (has_index is i m)
-
 -- the name is known to the code
 pub known : (is : List CodeIndex) (j : CodeIndex) → Has is j → list_any (is_named j.name) is ≡ true
 known [] j m = absurd m
@@ -166,7 +137,7 @@ renewed_here root shard to j r are placed there is_it r_is =
     ∙ (λ n. record {
       snapshots = map root_snap_of root.snapshots;
       indices = fresh_each j.name shard.shard.number to shard.shard.index.number root.indices
-          (λ i m. (fits root.indices are i j m there ∙ ap (λ (k : ℕ). i.id.number == k) id, λ same. placed.long (root_index_of i) (has_index root.indices i m) same)) n;
+          (λ i m. (fits root.indices are i j m there ∙ ap (λ (k : ℕ). i.id.number == k) id, λ same. placed.long (root_index_of i) (Has-map root_index_of root.indices i m) same)) n;
     })
 
 -- the root where no index has it

@@ -6,12 +6,13 @@ use Rattle.std.specs.Str.{bytes_eq}
 use Rattle.std.proofs.lemmas.Bool.{cases_Bool, eqb-true, eq-eqb, false_from_ne_true}
 use Rattle.esr_names.specs.declared.index_ref.IndexRef.{IndexRef}
 use Rattle.esr_names.specs.Indices.{AreRefs}
+use Rattle.esr_root.specs.Lists.{all_weaken}
 use Rattle.esr_formats.specs.Refs.{ref_of_code}
 use Rattle.esr_model.specs.Values.{Bytes, Has, RootIndex}
 use Rattle.esr_model.specs.Finalize.{ref_of}
 use Rattle.esr_newroot.specs.Named.{ref_named}
 use Rattle.esr_newroot.specs.ByteTests.{named_so, differ}
-use Rattle.esr_newroot.specs.RefLists.{one_name, one_id, all_weaken, other_later}
+use Rattle.esr_newroot.specs.RefLists.{one_name, one_id, other_later}
 use Rattle.esr_newroot.proofs.Choices.{chosen, passed, same_names, other_names}
 use Rattle.esr_newroot.proofs.Named.{some_is, none_some}
 
@@ -86,11 +87,6 @@ ref_apart name [] h = refl
 ref_apart name (q ∷ qs) h = passed (Some q) (ref_named name qs) h.0 ∙ ref_apart name qs h.1
 
 -- ---- references by their ids
-
-pub has_of : (qs : List IndexRef) (q : IndexRef) → Has qs q → Has (map ref_of_code qs) (ref_of_code q)
-has_of [] q h = absurd h
-has_of (p ∷ qs) q (inl e) = inl (ap ref_of_code e)
-has_of (p ∷ qs) q (inr h) = inr (has_of qs q h)
 
 pub id_none : (id : ℕ) (qs : List IndexRef) → ((q : IndexRef) → Has qs q → q.id.number ≢ id) → ref_of (map ref_of_code qs) id ≡ None
 id_none id [] h = refl

@@ -10,11 +10,12 @@ use Rattle.std.specs.declared.cmp.Ordering.{Ordering}
 use Rattle.std.specs.declared.cmp.Ordering.TheVariants.{Less, Equal, Greater}
 use Rattle.std.proofs.lemmas.Bool.{cases_Bool}
 use Rattle.std.proofs.lemmas.Cmp.{nat_list_cmp_total}
+use Rattle.esr_root.specs.NameOrder.{flipped}
 use Rattle.esr_model.specs.Values.{Bytes, RootIndex}
 use Rattle.esr_model.specs.Places.{by_order, put_by, sorted_by}
 use Rattle.esr_model.specs.Finalize.{named_first}
 use Rattle.esr_newroot.specs.Named.{index_named}
-use Rattle.esr_newroot.specs.ByteTests.{named_so, flipped, below}
+use Rattle.esr_newroot.specs.ByteTests.{named_so, below}
 use Rattle.esr_newroot.proofs.Choices.{chosen, passed, same_names, equals, above}
 use Rattle.esr_newroot.proofs.Named.{some_is, none_some, named-sorted}
 

@@ -9,6 +9,7 @@ use Rattle.esr_names.specs.declared.ids.Id.{Id}
 use Rattle.esr_names.specs.declared.index_ref.IndexRef.{IndexRef}
 use Rattle.esr_root.specs.Root.{Root}
 use Rattle.esr_root.specs.Changes.{set_generation_of, generation_at}
+use Rattle.esr_root.specs.Lists.{all_weaken}
 use Rattle.esr_formats.specs.Ids.{number_of}
 use Rattle.esr_formats.specs.Roots.{root_of}
 use Rattle.esr_model.specs.Values.{Bytes, RootIndex, RootData, ShardResult}
@@ -20,7 +21,7 @@ use Rattle.esr_newroot.specs.Named.{index_named, ref_named, with_done, done_in, 
 use Rattle.esr_newroot.proofs.Choices.{chosen, passed, same_names}
 use Rattle.esr_newroot.proofs.Merged.{length-merged, merged-no_results, merged-one, merged-then, merged-other}
 use Rattle.esr_newroot.proofs.Changed.{with_set, generation_named, set_named}
-use Rattle.esr_newroot.specs.RefLists.{one_name, all_weaken}
+use Rattle.esr_newroot.specs.RefLists.{one_name}
 use Rattle.esr_newroot.proofs.Refs.{by_refs, at_ref, by_one}
 
 with_generations : RootIndex → List (Option ℕ) → RootIndex

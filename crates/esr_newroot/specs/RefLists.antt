@@ -6,6 +6,7 @@ use Rattle.std.proofs.lemmas.Bool.{or_parts}
 use Rattle.esr_names.specs.declared.index_ref.IndexRef.{IndexRef}
 use Rattle.esr_names.specs.Indices.{clashes, AreRefs}
 use Rattle.esr_root.specs.Ids.{same_id}
+use Rattle.esr_root.specs.Lists.{all_weaken}
 use Rattle.esr_model.specs.Values.{Has}
 
 abbrev pub one_name : IndexRef → IndexRef → Bool
@@ -34,10 +35,6 @@ no_clash q p (x ∷ before) (inr h) e = no_clash q p before h (or_parts (clashes
 clear : (p : IndexRef) (before qs : List IndexRef) → Has before p → AreRefs before qs → AllByRecursion (λ q. clashes q p ≡ false) qs
 clear p before [] h a = tt
 clear p before (q ∷ qs) h a = (no_clash q p before h a.1, clear p (before ++ q ∷ []) qs (has_more before p q h) a.2)
-
-pub all_weaken : {A : Type 0} (P Q : A → Type 0) → ((x : A) → P x → Q x) → (xs : List A) → AllByRecursion P xs → AllByRecursion Q xs
-all_weaken P Q f [] h = tt
-all_weaken P Q f (x ∷ xs) h = (f x h.0, all_weaken P Q f xs h.1)
 
 distinct_by : (e : IndexRef → IndexRef → Bool) → ((p q : IndexRef) → clashes q p ≡ false → e p q ≡ false) → (before qs : List IndexRef) → AreRefs before qs → IsDistinct e qs
 unfolding IsDistinct

@@ -6,7 +6,7 @@ use Rattle.std.specs.FinMap as fin
 use Rattle.std.specs.declared.cmp.Ordering.TheVariants.{Less}
 use Rattle.std.proofs.lemmas.Bool.{eqb-true, true≢false}
 use Rattle.std.proofs.lemmas.Int.{ints}
-use Rattle.esr_model.specs.Lists.{Has-mapped, Has-map, Has-left, Has-right}
+use Rattle.esr_model.specs.Lists.{Has-mapped, Has-map, Has-left, Has-right, all_has, rising_has, apart_has, pass_has}
 use Rattle.esr_model.specs.Values.{Has, RootSnap, RootIndex, RootData, RecordWork, DeletingOf, ClusterRecord, ReadsBack}
 use Rattle.esr_model.specs.Kept.{first_id, RootIds}
 use Rattle.esr_core.specs.World.{Op, Deletion, opened, record_of, record_ops, work_of, kept_deletes, numbered_deletes}
@@ -24,6 +24,7 @@ use Rattle.esr_root.specs.Indices.{same_index, by_name, IsListed}
 use Rattle.esr_root.specs.Root.{Root, IsRoot}
 use Rattle.esr_root.specs.declared.snaps.RootSnap.{RootSnap as CodeSnap}
 use Rattle.esr_root.specs.declared.indices.RootIndex.{RootIndex as CodeIndex}
+use Rattle.esr_core.specs.Laws.CleanupReach.{any_was}
 use Rattle.esr_formats.specs.Ids.{number_of}
 use Rattle.esr_formats.specs.Roots.{root_of, root_snap_of, root_index_of}
 use Rattle.esr_formats.specs.Clusters.{count_of, work_of_code, op_of, cluster_of, cluster_kind}
@@ -36,7 +37,6 @@ use Rattle.esr_opening.specs.Foreign.{snapshot_ids, index_ids, root_ids, first_f
 use Rattle.esr_opening.specs.Found.{Obstacle, ◌>>=◌, known_by, known_ids, safe_number}
 use Rattle.esr_opening.specs.Opening.{known_blobs, world_in, IsInOrder}
 use Rattle.esr_opening.specs.Terms.{IsFit, is_delete, kept_ops, kept_of, AreFew, next_term}
-use Rattle.esr_opening.proofs.Members.{all_has, pass_has, any_has, apart_has, rising_has}
 use Rattle.esr_opening.proofs.Below.{all_below, uuid_in, index_in, generation_in_indices}
 
 -- ---- steps that were Ok
@@ -75,7 +75,7 @@ listed root rules x u has_x has_u =
     let i = Has-mapped root_index_of root.indices x has_x in
     let v = Has-mapped number_of i.0.snapshots u (subst (λ (y : RootIndex). Has y.snapshots u) (sym i.2) has_u) in
     let passes = pass_has (lists root.snapshots) i.0.snapshots v.0 (all_has (IsListed root.snapshots) root.indices i.0 rules.listed i.1) v.1 in
-    let s = any_has (λ (z : CodeSnap). same_id z.uuid v.0) root.snapshots passes in
+    let s = any_was (λ (z : CodeSnap). same_id z.uuid v.0) root.snapshots passes in
     (root_snap_of s.0, Has-map root_snap_of root.snapshots s.0 s.1, eqb-true s.0.uuid.number v.0.number s.2 ∙ v.2)
 
 -- one name to each id, and one id to each name

@@ -3,7 +3,8 @@ use Rattle.std.proofs.Common.{◌≡◌, ℕ, suc, ◌+◌, ◌<◌, ◌≤◌, 
 use Rattle.std.specs.Prelude.{if◌then◌else◌}
 use Rattle.std.proofs.lemmas.List.{append-nil, append_assoc, drop_more, drop_all}
 use Rattle.esr_record.specs.declared.op.RecordOp.{RecordOp}
-use Rattle.esr_record.specs.Op.{IsWork, IsOp, AreOps, last_from, last_op}
+use Rattle.esr_record.specs.Op.{IsWork, IsOp, AreOps, last_op}
+use Rattle.esr_ops.specs.Between.{last_pushed}
 use Rattle.esr_opening.specs.Terms.{is_delete, kept_ops}
 
 -- so many of the ops were looked at: the rest is kept behind, and its numbers lie above the last that was given
@@ -18,10 +19,6 @@ none_kept ops are = record { told = refl; above = are }
 from_lower : (low high : ℕ) (ops : List RecordOp) → low ≤ high → AreOps high ops → AreOps low ops
 from_lower low high [] le are = tt
 from_lower low high (o ∷ ops) le are = let above = are.0.above in (record { above = omega (arith, le, above); most = are.0.most; work = are.0.work }, are.1)
-
-last_pushed : (n : ℕ) (ops : List RecordOp) (o : RecordOp) → last_from n (ops ++ o ∷ []) ≡ o.op
-last_pushed n [] o = refl
-last_pushed n (p ∷ ops) o = last_pushed p.op ops o
 
 kept_if : (n : ℕ) (o : RecordOp) (ops : List RecordOp) (b : Bool) → is_delete o.work ≡ b → kept_ops n (o ∷ ops) ≡ (if b then record { op = n; work = o.work } ∷ kept_ops (suc n) ops else kept_ops n ops)
 kept_if n o ops b is = ap (λ (c : Bool). if c then record { op = n; work = o.work } ∷ kept_ops (suc n) ops else kept_ops n ops) is

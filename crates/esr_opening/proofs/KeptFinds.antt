@@ -72,7 +72,8 @@ info_found : (known : Bytes → Bytes → ℕ → Bool) (told : Bytes → Bytes 
 unfolding formats
 info_found known told blobs root n s shelved one st =
     let i = info_reads st.info_reads.bytes st.info st.info_reads.reads in
-    let there : info_in blobs root n s ≡ agreed root n s i.0 = then_ok (read_as info_from (info_name s) (fin.get blobs (info_name s))) (agreed root n s) i.0 (blob_reads info_from blobs (info_name s) st.info_reads.bytes i.0 st.info_reads.there.0 i.1) in
+    let there : info_in blobs root n s ≡ agreed root n s i.0 =
+    then_ok (read_as info_from (info_name s) (fin.get blobs (info_name s))) (agreed root n s) i.0 (blob_reads info_from blobs (info_name s) st.info_reads.bytes i.0 st.info_reads.there.0 i.1) in
     let agree : Agrees (root_of root) (root_snap_of s) st.info = standing_agrees (formats known told) (At (formats known told) blobs) (root_of root) (root_snap_of s) shelved st in
     there ∙ agreed_ok root n s i.0 (holds_test (root_of root) (root_snap_of s) (info_of_code i.0) one (subst (λ (x : SnapInfo). Agrees (root_of root) (root_snap_of s) x) (sym i.2) agree))
 
@@ -144,7 +145,8 @@ none_listed blobs no_blob =
 
 empty_opens : (i : Held) (shelf : List Shelved) → IsEmpty (image_of i) shelf → IfErr (found i) IsNoDamage
 empty_opens i shelf empty =
-    all_but_stops i empty_record empty_root (record_absent i (page_from None (sizes_of i.blobs)) (sym empty.no_record) refl ∙ ap (λ (sizes : List (Bytes × ℕ)). without_record (page_from None sizes)) (none_listed i.blobs empty.no_blob)) refl refl
+    all_but_stops i empty_record empty_root
+    (record_absent i (page_from None (sizes_of i.blobs)) (sym empty.no_record) refl ∙ ap (λ (sizes : List (Bytes × ℕ)). without_record (page_from None sizes)) (none_listed i.blobs empty.no_blob)) refl refl
 
 recorded_opens : (known : Bytes → Bytes → ℕ → Bool) (told : Bytes → Bytes → ℕ → Option (List (Bytes × Bytes))) (i : Held) (shelf : List Shelved) → Recorded (formats known told) (image_of i) shelf → IfErr (found i) IsNoDamage
 unfolding formats

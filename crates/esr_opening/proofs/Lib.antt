@@ -1,7 +1,6 @@
 pub mod Looking
 pub mod Answering
 pub mod Reading
-pub mod Members
 pub mod Below
 pub mod Keeping
 pub mod Fitting

@@ -6,7 +6,7 @@ use Rattle.std.specs.List.{IsDistinct}
 use Rattle.std.specs.Result.{result_ok}
 use Rattle.std.proofs.lemmas.Bool.{true≢false}
 use Rattle.std.proofs.lemmas.List.{take_more, take_all}
-use Rattle.esr_model.specs.Lists.{Has-mapped, Has-map}
+use Rattle.esr_model.specs.Lists.{Has-mapped, Has-map, AllPairs-snoc}
 use Rattle.esr_names.specs.declared.index_ref.IndexRef.{IndexRef as CodeRef}
 use Rattle.esr_model.specs.Names.{Snap, Latest}
 use Rattle.esr_model.specs.Values.{Bytes, Has, IndexRef, RootSnap, ReadsBack}
@@ -93,17 +93,11 @@ info_kept held root n s info name bytes x back is got read apart agree = record 
 
 -- ---- one after another
 
-pairs_push : {A B : Type 0} (R : A → B → Type 0) (xs : List A) (ys : List B) (x : A) (y : B) → AllPairs R xs ys → R x y → AllPairs R (xs ++ x ∷ []) (ys ++ y ∷ [])
-pairs_push R [] [] x y pairs one = (one, tt)
-pairs_push R [] (b ∷ ys) x y pairs one = absurd pairs
-pairs_push R (a ∷ xs) [] x y pairs one = absurd pairs
-pairs_push R (a ∷ xs) (b ∷ ys) x y pairs one = (pairs.0, pairs_push R xs ys x y pairs.1 one)
-
 pub pairs_more : {A B : Type 0} (R : A → B → Type 0) (xs : List A) (ys zs : List B) (i : ℕ) (x : A) (y : B) → i < length xs → x ≡ get_or xs i x → AllPairs R (take i xs) ys → R x y → zs ≡ ys ++ y ∷ []
     → AllPairs R (take (i + 1) xs) zs
 pairs_more {A} {B} R xs ys zs i x y less is pairs one more =
     subst (λ (l : List B). AllPairs R (take (i + 1) xs) l) (sym more)
-    (subst (λ (l : List A). AllPairs R l (ys ++ y ∷ [])) (sym (take_more xs i x less ∙ ap (λ (z : A). take i xs ++ z ∷ []) (sym is))) (pairs_push R (take i xs) ys x y pairs one))
+    (subst (λ (l : List A). AllPairs R l (ys ++ y ∷ [])) (sym (take_more xs i x less ∙ ap (λ (z : A). take i xs ++ z ∷ []) (sym is))) (AllPairs-snoc R (take i xs) ys x y pairs one))
 
 pub pairs_all : {A B : Type 0} (R : A → B → Type 0) (xs : List A) (ys : List B) (i : ℕ) → length xs ≤ i → AllPairs R (take i xs) ys → AllPairs R xs ys
 pairs_all {A} {B} R xs ys i past pairs = subst (λ (l : List A). AllPairs R l ys) (take_all i xs past) pairs

@@ -47,6 +47,7 @@ pub fn open_container<D: Depot>(
 ) -> Result<Opening<D>, (D, OpenRefusal<D::Fetch>)>
     ensures opened { IfOk result (λ o. IsOpening (D.look depot) (D.look o.depot) (record { cluster = o.cluster; root = o.root; infos = o.infos; plan = o.progress; next = o.next.number })) }
     ensures listed { IfOk result (λ o. AreListed (root_of o.root) o.infos) }
+    ensures infos { IfOk result (λ o. AreInfosIn (now (D.look depot)) o.root o.root.snapshots o.infos) }
     ensures refused { IfErr result (λ e. IsOpenRefused D.Fetch.faults (D.look depot) (D.look e.0) (D.faults depot) (D.faults e.0) e.1) }
     ensures counted { IfOk result (λ o. D.faults depot ≤ D.faults o.depot) }
     ensures recounted { IfErr result (λ e. D.faults depot ≤ D.faults e.0) }
@@ -94,6 +95,7 @@ fn open_in_place<D: Depot>(
 ) -> Result<(ClusterRecord, RootData, SnapInfos, Progress), OpenRefusal<D::Fetch>>
     ensures opened { IfOk result (λ o. IsOpening (D.look depot.old) (D.look depot.new) (record { cluster = o.0; root = o.1; infos = o.2; plan = o.3; next = first_id o.0.term })) }
     ensures listed { IfOk result (λ o. AreListed (root_of o.1) o.2) }
+    ensures infos { IfOk result (λ o. AreInfosIn (now (D.look depot.old)) o.1 o.1.snapshots o.2) }
     ensures refused { IfErr result (λ e. IsOpenRefused D.Fetch.faults (D.look depot.old) (D.look depot.new) (D.faults depot.old) (D.faults depot.new) e) }
     ensures counted { D.faults depot.old ≤ D.faults depot.new }
     ensures spends { Spends (D.look depot.old).sure (D.look depot.new).sure (2 ^ 61) (has_fault result) }

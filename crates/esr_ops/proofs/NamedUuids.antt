@@ -85,7 +85,8 @@ listed_same : (p : ℕ → Bool) (all uuids : List Id) (a b : Bool) → a ≡ li
     → b ≡ list_all (λ (u : Id). not (p u.number) || names_uuid (map number_of uuids) u.number) all
     → (a && b) ≡ name_the_same (filter p (map number_of all)) (map number_of uuids)
 listed_same p all uuids a b first second =
-    let each = first ∙ sym (all-numbers (λ (u : ℕ). p u && names_uuid (map number_of all) u) uuids) ∙ sym (all-same (names_uuid (filter p (map number_of all))) (λ (u : ℕ). p u && names_uuid (map number_of all) u) (names-filter p (map number_of all)) (map number_of uuids)) in
+    let each = first ∙ sym (all-numbers (λ (u : ℕ). p u && names_uuid (map number_of all) u) uuids)
+    ∙ sym (all-same (names_uuid (filter p (map number_of all))) (λ (u : ℕ). p u && names_uuid (map number_of all) u) (names-filter p (map number_of all)) (map number_of uuids)) in
     let back = second ∙ sym (all-numbers (λ (u : ℕ). not (p u) || names_uuid (map number_of uuids) u) all) ∙ sym (all-filter p (names_uuid (map number_of uuids)) (map number_of all)) in
     λ j. each j && back j
 

@@ -19,6 +19,7 @@ use Rattle.esr_results.specs.Results.{result_of}
 use Rattle.std.proofs.lemmas.Bool.Decides.{eqb_tells}
 use Rattle.std.specs.Prelude.{IfSome}
 use Rattle.esr_model.specs.Lists.{Has-mapped, Has-map}
+use Rattle.esr_core.specs.Laws.DoneShards.{done_same}
 use Rattle.esr_ops.specs.Lists.{all_member}
 use Rattle.esr_ops.specs.Most.{most_like, most_more}
 use Rattle.esr_ops.proofs.Lists.{all_mapped}
@@ -112,9 +113,6 @@ IsDoneOpen shard s generation = IsDoneAt shard.index.number shard.number (work_o
 apart_states : (st : CodeState) (x : OpenShard) (shard : ShardId) → x.state ≡ st → ((r : ShardResult) → state_of st ≡ Done r → ⊥) → (g : ℕ) → IsDoneOpen shard x g → ⊥
 apart_states st x shard is never g h = never h.r (sym (ap state_of is) ∙ h.state)
 
-some_result : (a b : ShardResult) → Done a ≡ Done b → a ≡ b
-some_result a b e = cc
-
 -- what the code finds at one shard is the largest there
 most_by : (shard : ShardId) (x : OpenShard) (st : CodeState) → x.state ≡ st → IsMost (IsDoneOpen shard x) (option_map number_of (generation_by ((x.shard.index.number == shard.index.number) && (x.shard.number == shard.number)) st))
 most_by shard x states.Pending is = apart_states states.Pending x shard is (λ r e. cc)
@@ -126,7 +124,7 @@ most_by shard x (states.Done r) is = elim (eqb_tells x.shard.index.number shard.
         let same : ((x.shard.index.number == shard.index.number) && (x.shard.number == shard.number)) ≡ true = λ i. t.0 i && u.0 i in
         subst (λ b. IsMost (IsDoneOpen shard x) (option_map number_of (cond b (Some r.generation) None))) (sym same) (
           record { r = result_of r; state = ap state_of is; index_is = t.1; number_is = u.1; generation_is = refl },
-          λ g h. omega (arith, ap (λ (z : ShardResult). z.generation) (some_result (result_of r) h.r (sym (ap state_of is) ∙ h.state)), h.generation_is),
+          λ g h. omega (arith, ap (λ (z : ShardResult). z.generation) (done_same (result_of r) h.r (sym (ap state_of is) ∙ h.state)), h.generation_is),
         )
     | inr u ↦
         let other : ((x.shard.index.number == shard.index.number) && (x.shard.number == shard.number)) ≡ false = (λ i. t.0 i && u.0 i) in
@@ -145,8 +143,17 @@ pub most_works : (refs : List CodeRef) (places : List Bytes) (xs : List OpenShar
     → IsMost (Among (map (work_of_shard refs places) xs) (IsDoneAt shard.index.number shard.number)) a
 most_works refs places xs shard a h = most_like _ _ a
     (λ g d. (work_of_shard refs places d.0, Has-map (work_of_shard refs places) xs d.0 d.1, record { r = d.2.r; state = d.2.state; index_is = d.2.index_is; number_is = d.2.number_is; generation_is = d.2.generation_is }))
-    (λ g d. let (x, m, is) = Has-mapped (work_of_shard refs places) xs d.0 d.1 in
-    (x, m, record { r = d.2.r; state = ap (λ (s : ShardWork). s.state) is ∙ d.2.state; index_is = ap (λ (s : ShardWork). s.ref.id) is ∙ d.2.index_is; number_is = ap (λ (s : ShardWork). s.number) is ∙ d.2.number_is; generation_is = d.2.generation_is }))
+    (λ g d. let (x, m, is) = Has-mapped (work_of_shard refs places) xs d.0 d.1 in (
+      x,
+      m,
+      record {
+        r = d.2.r;
+        state = ap (λ (s : ShardWork). s.state) is ∙ d.2.state;
+        index_is = ap (λ (s : ShardWork). s.ref.id) is ∙ d.2.index_is;
+        number_is = ap (λ (s : ShardWork). s.number) is ∙ d.2.number_is;
+        generation_is = d.2.generation_is;
+      },
+    ))
     h
 
 -- one shard more

@@ -11,9 +11,6 @@ use Rattle.esr_core.specs.Deletes.{with_uuid}
 
 -- ---- tests over lists
 
-pub clash : (b : Bool) → b ≡ true → b ≡ false → ⊥
-clash b p q = true≢false (sym p ∙ q)
-
 module _ {A : Type 0} (p : A → Bool) where
   pub any_true : (xs : List A) → list_any p xs ≡ true → (x : A) × Has xs x × (p x ≡ true)
   any_true [] e = absurd (true≢false (sym e))

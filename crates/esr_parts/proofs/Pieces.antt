@@ -1,6 +1,6 @@
 -- One piece after another.
-use Rattle.std.proofs.Common.{◌≡◌, ℕ, true, false, Bool, List, [], ◌++◌, Option, Some, None, Result, Ok, Err, OnOk, OnErr, is_err, refl, sym, ◌∙◌, ap, subst, arith, append_assoc, length-append}
-use Rattle.std.specs.Io.KnownBytes.{append_known, Consumes}
+use Rattle.std.proofs.Common.{◌≡◌, ℕ, true, false, Bool, List, ◌++◌, Option, Some, None, Result, Ok, Err, OnOk, OnErr, is_err, refl, sym, ◌∙◌, ap, subst, arith, append_assoc, length-append}
+use Rattle.std.specs.Io.KnownBytes.{append_known}
 use Rattle.esr_hash.specs.declared.hasher.Hasher.{Hasher}
 use Rattle.esr_hash.specs.Fed.{HasFed}
 use Rattle.esr_source.specs.Sure.{ServesAll}
@@ -17,16 +17,6 @@ fed_more a b c xs ys h k =
 pub stage_more : (o : Option (List ℕ)) (xs ys : List ℕ) → append_known (append_known o xs) ys ≡ append_known o (xs ++ ys)
 stage_more None xs ys = refl
 stage_more (Some told) xs ys = ap (λ (bytes : List ℕ). Some bytes) (append_assoc told xs ys)
-
-pub consumes_more : (a b c : Option (List ℕ)) (xs ys : List ℕ) → Consumes a b xs → Consumes b c ys → Consumes a c (xs ++ ys)
-consumes_more None b c xs ys h k = tt
-consumes_more (Some a) None c xs ys h k = absurd h
-consumes_more (Some a) (Some b) None xs ys h k = absurd k
-consumes_more (Some a) (Some b) (Some c) xs ys h k = h ∙ ap (λ (l : List ℕ). xs ++ l) k ∙ sym (append_assoc xs ys c)
-
-pub consumes_none : (a : Option (List ℕ)) → Consumes a a []
-consumes_none None = tt
-consumes_none (Some a) = refl
 
 pub on_ok : {T E : Type 0} (P : Type 0) (r : Result T E) → is_err r ≡ false → OnOk r P → P
 on_ok P (Ok x) is h = h

@@ -2,12 +2,13 @@
 use Rattle.std.proofs.Common.{◌≡◌, ℕ, zero, suc, ◌+◌, ◌-◌, ◌<◌, ◌≤◌, List, [], ◌∷◌, ◌++◌, length, take, Option, Some, None, option_map, refl, sym, ◌∙◌, ap, subst, arith, length-append}
 use Rattle.std.proofs.lemmas.List.{append-nil, take_all, take-take, take_at, length-take-le}
 use Rattle.std.specs.Io.KnownBytes.{IsAtEnd}
+use Rattle.std.proofs.KnownBytes.{Consumes-trans}
 use Rattle.esr_hash.specs.declared.hasher.Hasher.{Hasher}
 use Rattle.esr_source.specs.Begun.{Begun, more}
 use Rattle.esr_parts.specs.declared.back.Extent.{Extent}
 use Rattle.esr_parts.specs.declared.back.Extent.TheVariants.{Whole, Short, Long}
 use Rattle.esr_parts.specs.Back.{Taken, HasExtent, NextPiece, HashedBack, ReadBack, Broken}
-use Rattle.esr_parts.proofs.Pieces.{fed_more, stage_more, consumes_more}
+use Rattle.esr_parts.proofs.Pieces.{fed_more, stage_more}
 
 -- one piece after another was written
 pub grown_more : (o p q : Option Begun) (xs ys : List ℕ) → p ≡ option_map (more xs) o → q ≡ option_map (more ys) p → q ≡ option_map (more (xs ++ ys)) o
@@ -44,7 +45,7 @@ module _ (a b c : Option (List ℕ)) (h k l : Hasher) (piece : List ℕ) (first 
   -- one piece after another was read
   pub taken_more : (xs : List ℕ) → Taken b c k l xs → Taken a c h l (piece ++ xs)
   taken_more xs second = record {
-    took = consumes_more a b c piece xs first.took second.took;
+    took = Consumes-trans a b c piece xs first.took second.took;
     fed = fed_more h k l piece xs first.fed second.fed;
   }
 

@@ -1,9 +1,10 @@
 -- What holds of a list as far as a loop has come.
-use Rattle.std.proofs.Common.{◌≡◌, ℕ, suc, ◌+◌, ◌<◌, ◌≤◌, Bool, true, false, List, [], ◌∷◌, ◌++◌, map, length, take, get_or, Option, Some, None, refl, sym, ap, subst, inl, inr}
+use Rattle.std.proofs.Common.{◌≡◌, ℕ, ◌+◌, ◌<◌, ◌≤◌, Bool, true, false, List, [], ◌∷◌, ◌++◌, map, length, take, get_or, Option, Some, None, refl, sym, subst, inl, inr}
 use Rattle.esr_model.specs.Loops.{next, all, has_at, item_is, every_more}
 use Rattle.esr_model.specs.Values.{Has}
 use Rattle.esr_plain.specs.Exactly.{IsExactly}
 use Rattle.esr_model.specs.Image.{AllPairs}
+use Rattle.esr_model.specs.Lists.{AllPairs-snoc}
 
 -- ---- answers that are exact
 
@@ -41,27 +42,6 @@ every_read P f xs i d less each one = every_more P f xs i (get_or xs i d) less (
 
 -- ---- pair by pair
 
-pub pairs_length : {A B : Type 0} (R : A → B → Type 0) (xs : List A) (ys : List B) → AllPairs R xs ys → length xs ≡ length ys
-pairs_length R [] [] pairs = refl
-pairs_length R [] (y ∷ ys) pairs = absurd pairs
-pairs_length R (x ∷ xs) [] pairs = absurd pairs
-pairs_length R (x ∷ xs) (y ∷ ys) pairs = ap suc (pairs_length R xs ys pairs.1)
-
--- pair by pair, what stands beside a list is one list
-pub pairs_one : {A B : Type 0} (R S : A → B → Type 0) → ((x : A) (y z : B) → R x y → S x z → y ≡ z) → (xs : List A) (ys zs : List B) → AllPairs R xs ys → AllPairs S xs zs → ys ≡ zs
-pairs_one R S one [] [] [] h k = refl
-pairs_one R S one [] [] (z ∷ zs) h k = absurd k
-pairs_one R S one [] (y ∷ ys) zs h k = absurd h
-pairs_one R S one (x ∷ xs) [] zs h k = absurd h
-pairs_one R S one (x ∷ xs) (y ∷ ys) [] h k = absurd k
-pairs_one R S one (x ∷ xs) (y ∷ ys) (z ∷ zs) h k = λ i. one x y z h.0 k.0 i ∷ pairs_one R S one xs ys zs h.1 k.1 i
-
-pub pairs_push : {A B : Type 0} (R : A → B → Type 0) (xs : List A) (ys : List B) (x : A) (y : B) → AllPairs R xs ys → R x y → AllPairs R (xs ++ x ∷ []) (ys ++ y ∷ [])
-pairs_push R [] [] x y pairs one = (one, tt)
-pairs_push R [] (b ∷ ys) x y pairs one = absurd pairs
-pairs_push R (a ∷ xs) [] x y pairs one = absurd pairs
-pairs_push R (a ∷ xs) (b ∷ ys) x y pairs one = (pairs.0, pairs_push R xs ys x y pairs.1 one)
-
 pub pairs_has : {A B : Type 0} (R : A → B → Type 0) (xs : List A) (ys : List B) → AllPairs R xs ys → (x : A) → Has xs x → (y : B) × R x y
 pairs_has R [] ys pairs x none = absurd none
 pairs_has R (a ∷ xs) [] pairs x has = absurd pairs
@@ -70,7 +50,7 @@ pairs_has R (a ∷ xs) (b ∷ ys) pairs x (inr later) = pairs_has R xs ys pairs.
 
 pub pairs_more : {A B C : Type 0} (R : B → C → Type 0) (f : A → B) (xs : List A) (ys : List C) (i : ℕ) (x : A) (y : C) → i < length xs → x ≡ get_or xs i x
     → AllPairs R (map f (take i xs)) ys → R (f x) y → AllPairs R (map f (take (i + 1) xs)) (ys ++ y ∷ [])
-pairs_more {A} {B} {C} R f xs ys i x y less is pairs one = subst (λ (zs : List B). AllPairs R zs (ys ++ y ∷ [])) (sym (next f xs i x less is)) (pairs_push R (map f (take i xs)) ys (f x) y pairs one)
+pairs_more {A} {B} {C} R f xs ys i x y less is pairs one = subst (λ (zs : List B). AllPairs R zs (ys ++ y ∷ [])) (sym (next f xs i x less is)) (AllPairs-snoc R (map f (take i xs)) ys (f x) y pairs one)
 
 pub pairs_all : {A B C : Type 0} (R : B → C → Type 0) (f : A → B) (xs : List A) (ys : List C) (i : ℕ) → length xs ≤ i → AllPairs R (map f (take i xs)) ys → AllPairs R (map f xs) ys
 pairs_all {A} {B} {C} R f xs ys i past pairs = subst (λ (zs : List B). AllPairs R zs ys) (all f xs i past) pairs

@@ -14,8 +14,8 @@ use Rattle.esr_model.specs.Names.{BlobName, File, Part}
 use Rattle.esr_model.specs.Values.{Bytes, FileEntry}
 use Rattle.esr_model.specs.Parts.{part_count, parts_from, part_names, AreFull}
 use Rattle.esr_model.specs.Image.{AllPairs, IsOne, concat}
+use Rattle.esr_model.specs.Lists.{AllPairs-snoc, pairs_length, pairs_one}
 use Rattle.esr_plain.specs.Joined.{IsJoined}
-use Rattle.esr_plain.proofs.Loops.{pairs_push, pairs_length, pairs_one}
 
 -- ---- the names of parts, one by one
 
@@ -154,7 +154,8 @@ pub there_more : (has : BlobName → Bytes → Type 0) (shard : ShardId) (e : Co
     → has (name_of (code_part_name shard e k)) p
     → IsThere has shard e k parts → IsThere has shard e (k + 1) (parts ++ p ∷ [])
 there_more has shard e some k parts p less one there =
-    subst (λ (names : List BlobName). AllPairs has names (parts ++ p ∷ [])) (sym (names_next shard e some k less)) (pairs_push has (take k (part_names shard.index.number shard.number (entry_of e))) parts (name_of (code_part_name shard e k)) p there one)
+    subst (λ (names : List BlobName). AllPairs has names (parts ++ p ∷ [])) (sym (names_next shard e some k less))
+    (AllPairs-snoc has (take k (part_names shard.index.number shard.number (entry_of e))) parts (name_of (code_part_name shard e k)) p there one)
 
 -- all parts are there
 pub joined_all : (has : BlobName → Bytes → Type 0) (shard : ShardId) (e : CodeEntry) → 1 ≤ e.part_size → (k : ℕ) (bytes : Bytes) (begun : Begun shard e k bytes) → IsThere has shard e k begun.parts

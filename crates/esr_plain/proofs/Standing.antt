@@ -16,11 +16,12 @@ use Rattle.esr_model.specs.Names.{BlobName, Root, Snap, ShardSnap, ShardIndex}
 use Rattle.esr_model.specs.Values.{Bytes, Has, IndexRef, RootSnap, RootIndex, RootData, SnapInfo, FileEntry, ShardSnapshot, SnapList, ShardFiles, Formats, IsOneEach}
 use Rattle.esr_model.specs.Shelf.{Shelved, ShelfShard}
 use Rattle.esr_model.specs.Image.{AllPairs, IsOne, Reads, Generation, IndexStands, ShardStands, SnapStands, RootStands, Stands, Picked, FileStands, concat, index_at, at_shard, at_shard_of}
+use Rattle.esr_model.specs.Lists.{Has-mapped, pairs_one}
 use Rattle.esr_plain.specs.Exactly.{IsExactly}
 use Rattle.esr_plain.specs.Joined.{IsStored}
 use Rattle.esr_plain.specs.Listed.{HaveSnaps}
 use Rattle.esr_plain.proofs.Blobs.{reads_one}
-use Rattle.esr_plain.proofs.Loops.{pairs_has, pairs_each, pairs_one}
+use Rattle.esr_plain.proofs.Loops.{pairs_has, pairs_each}
 
 -- ---- the index of one shard
 
@@ -45,7 +46,8 @@ module _ (f : Formats) (has : BlobName → Bytes → Type 0) (root : RootData) (
 
   pub index_lacks : IsOne has → (held : ShardFiles) → Reads has (ShardIndex index shard generation) f.shard_index held → (HaveSnaps f has root index shard held.snapshots → ⊥) → IndexStands f has root index shard generation → ⊥
   index_lacks one held reads none s =
-      none (subst (λ (v : ShardFiles). HaveSnaps f has root index shard v.snapshots) (reads_one has one (ShardIndex index shard generation) f.shard_index s.held held s.held_reads reads) (λ l there snap listed same. s.snaps l snap there listed same))
+      none
+      (subst (λ (v : ShardFiles). HaveSnaps f has root index shard v.snapshots) (reads_one has one (ShardIndex index shard generation) f.shard_index s.held held s.held_reads reads) (λ l there snap listed same. s.snaps l snap there listed same))
 
   pub index_without : IsOne has → (held : ShardFiles) → Reads has (ShardIndex index shard generation) f.shard_index held → ((files : List (Bytes × Bytes)) → AllPairs (IsStored f has index shard) held.files files → ⊥)
       → IndexStands f has root index shard generation → ⊥
@@ -80,11 +82,6 @@ index_there (y ∷ ys) once x has = elim (eqb_tells y.id x.id) [
   ]
 ]
 
-mapped : (is : List CodeIndex) (x : RootIndex) → Has (map root_index_of is) x → (i : CodeIndex) × Has is i × (root_index_of i ≡ x)
-mapped [] x none = absurd none
-mapped (i ∷ is) x (inl here) = (i, inl refl, here)
-mapped (i ∷ is) x (inr later) = let found = mapped is x later in (found.0, inr found.1, found.2)
-
 differ_later : (i : CodeIndex) (is : List CodeIndex) → AllByRecursion (λ j. same_index i j ≡ false) is → (j : CodeIndex) → Has is j → i.id.number ≡ j.id.number → ⊥
 differ_later i [] apart j none same = none
 differ_later i (k ∷ is) apart j (inl here) same = true≢false (sym (eq-eqb i.id.number j.id.number same) ∙ subst (λ (z : CodeIndex). same_index i z ≡ false) here apart.0)
@@ -101,8 +98,8 @@ once_codes (k ∷ is) apart i j (inr hi) (inr hj) same = once_codes is apart.1 i
 -- the indices of a root have each id once
 pub one_each : (is : List CodeIndex) → AreIndices is → IsOneEach (map root_index_of is)
 one_each is rule x y has_x has_y same =
-    let i = mapped is x has_x in
-    let j = mapped is y has_y in
+    let i = Has-mapped root_index_of is x has_x in
+    let j = Has-mapped root_index_of is y has_y in
     let number : i.0.id.number ≡ j.0.id.number = ap (λ (z : RootIndex). z.id) i.2 ∙ same ∙ sym (ap (λ (z : RootIndex). z.id) j.2) in
     sym i.2 ∙ ap root_index_of (once_codes is rule.distinct i.0 j.0 i.1 j.1 number) ∙ j.2
 

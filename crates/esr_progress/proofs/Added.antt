@@ -33,7 +33,8 @@ more ops deletes next restores op h room = record {
 pub progress-push : (ops : List (ℕ × Op)) (deletes : List (ℕ × Deletion)) (next : ℕ) (restores : List (ℕ × RestorePlan)) (op : ℕ × Op) (new : List (ℕ × Op)) → IsProgress ops deletes next restores → next < 2 ^ 62
     → op.0 ≡ next → new ≡ ops ++ op ∷ [] → IsProgress new deletes (next + 1) restores
 progress-push ops deletes next restores op new h room is pushed =
-    subst (λ (es : List (ℕ × Op)). IsProgress es deletes (next + 1) restores) (sym (pushed ∙ λ j. ops ++ (is j, op.1) ∷ [])) (subst (λ (n : ℕ). IsProgress (ops ++ (next, op.1) ∷ []) deletes n restores) (sym (add-one next)) (more ops deletes next restores op.1 h room))
+    subst (λ (es : List (ℕ × Op)). IsProgress es deletes (next + 1) restores) (sym (pushed ∙ λ j. ops ++ (is j, op.1) ∷ []))
+    (subst (λ (n : ℕ). IsProgress (ops ++ (next, op.1) ∷ []) deletes n restores) (sym (add-one next)) (more ops deletes next restores op.1 h room))
 
 pub plan-push : (ops : List (ℕ × Op)) (deletes : List (ℕ × Deletion)) (completed now : List ℕ) (seats : TicketMaps) (next : ℕ) (restores : List (ℕ × RestorePlan)) (op : ℕ × Op) (new : List (ℕ × Op)) (p : Plan)
     → IsProgress ops deletes next restores → plan_with ops deletes completed seats next restores ≡ p
@@ -89,7 +90,8 @@ module _ (ops : List (ℕ × Op)) (deletes : List (ℕ × Deletion)) (completed 
   remove_free : fin.from_entries {R = nat_cmp} restores ≡ fin.remove (fin.from_entries restores) next
   remove_free = same_maps _ _ (λ q. get_from restores q ∙ same_left q (eqb q next) (λ e. eqb_is q next e) ∙ ap (cond (eqb q next) None) (sym (get_from restores q)) ∙ sym (get_left (fin.from_entries restores) next q))
 
-  opened_map : (r : ℕ × RestorePlan) → r.0 ≡ next → (b : Bool) → new ≡ cond b (restores ++ r ∷ []) restores → fin.from_entries {R = nat_cmp} new ≡ cond b (fin.insert (fin.from_entries restores) r.0 r.1) (fin.remove (fin.from_entries restores) r.0)
+  opened_map : (r : ℕ × RestorePlan) → r.0 ≡ next → (b : Bool) → new ≡ cond b (restores ++ r ∷ []) restores
+      → fin.from_entries {R = nat_cmp} new ≡ cond b (fin.insert (fin.from_entries restores) r.0 r.1) (fin.remove (fin.from_entries restores) r.0)
   opened_map r number true are = ap (λ (es : List (ℕ × RestorePlan)). fin.from_entries {R = nat_cmp} es) are ∙ from_push restores r.0 r.1 (ap (λ (k : ℕ). fin.find nat_cmp k restores) number ∙ free)
   opened_map r number false are = ap (λ (es : List (ℕ × RestorePlan)). fin.from_entries {R = nat_cmp} es) are ∙ remove_free ∙ ap (fin.remove (fin.from_entries {R = nat_cmp} restores)) (sym number)
 

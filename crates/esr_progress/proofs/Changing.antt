@@ -178,7 +178,8 @@ module _ (g : RestorePlan → RestorePlan) (ops : List (ℕ × Op)) (deletes : L
     restore_put_numbers = ap (λ v. numbers_of (set restores i v)) restore_is ∙ numbers-set restores o i (g restore_at.e.1) restore_at
 
     pub restore_put_keeps : IsProgress ops deletes next restores → IsProgress ops deletes next (set restores i new)
-    restore_put_keeps h = record { ops_numbered = h.ops_numbered; deletes_numbered = h.deletes_numbered; restores_numbered = subst (λ ns. AreNumbers ns next) (sym restore_put_numbers) h.restores_numbered; apart = h.apart; first = h.first; most = h.most }
+    restore_put_keeps h =
+        record { ops_numbered = h.ops_numbered; deletes_numbered = h.deletes_numbered; restores_numbered = subst (λ ns. AreNumbers ns next) (sym restore_put_numbers) h.restores_numbered; apart = h.apart; first = h.first; most = h.most }
 
 module _ (ops : List (ℕ × Op)) (deletes : List (ℕ × Deletion)) (completed : List ℕ) (seats : TicketMaps) (next : ℕ) (restores : List (ℕ × RestorePlan)) (o : ℕ) where
   pub restore_left_keeps : IsProgress ops deletes next restores → IsProgress ops deletes next (filter (λ e. not (eqb e.0 o)) restores)

@@ -12,6 +12,7 @@ use Rattle.esr_core.specs.Ready.{Goes, Stopped, Waits, Before}
 use Rattle.esr_core.specs.Steps.{all_done, is_done}
 use Rattle.esr_core.specs.Allowed.{StandsBefore}
 use Rattle.esr_core.specs.After.{shard_of}
+use Rattle.esr_core.specs.Laws.Tests.{clash}
 use Rattle.esr_progress.specs.declared.ready.Kind.{Kind}
 use Rattle.esr_progress.specs.declared.ready.Kind.TheVariants as ready
 use Rattle.esr_ops.specs.Plan.{RestorePlan, TicketMaps}
@@ -22,7 +23,7 @@ use Rattle.esr_progress.specs.Choice.{barred, is_going, goes_in, is_first_at, is
 use Rattle.esr_ops.specs.Entries.{find-member, eqb_is}
 use Rattle.esr_ops.specs.Lists.{Has-at, position-None}
 use Rattle.esr_ops.specs.Numbers.{found_member}
-use Rattle.esr_ops.specs.Tests.{clash, any_here, any_true, first_place, place_within}
+use Rattle.esr_ops.specs.Tests.{any_here, any_true, first_place, place_within}
 
 -- ---- the search
 
@@ -293,7 +294,8 @@ possible ops deletes completed seats restores term e ready.Drop is = tt
 
 -- ---- the same, of equal lists
 
-module _ (ops here : List (ℕ × Op)) (same : here ≡ ops) (deletes held : List (ℕ × Deletion)) (kept : held ≡ deletes) (completed done : List ℕ) (d : done ≡ completed) (seats sat : TicketMaps) (s : sat ≡ seats) (restores read : List (ℕ × RestorePlan)) (r : read ≡ restores) (term : ℕ) where
+module _ (ops here : List (ℕ × Op)) (same : here ≡ ops) (deletes held : List (ℕ × Deletion)) (kept : held ≡ deletes) (completed done : List ℕ)
+    (d : done ≡ completed) (seats sat : TicketMaps) (s : sat ≡ seats) (restores read : List (ℕ × RestorePlan)) (r : read ≡ restores) (term : ℕ) where
   pub none_in : NoneBefore here held done sat read term (length here) → NoneBefore ops deletes completed seats restores term (length ops)
   none_in h =
       subst (λ (es : List (ℕ × Op)). NoneBefore es deletes completed seats restores term (length es)) same
@@ -309,7 +311,8 @@ module _ (ops here : List (ℕ × Op)) (same : here ≡ ops) (deletes held : Lis
       (subst (λ (cs : TicketMaps). IsReadyAt here held done cs restores term at kind) s (subst (λ (rs : List (ℕ × RestorePlan)). IsReadyAt here held done sat rs term at kind) r h))))
 
 -- the op at the place, read
-module _ (ops here : List (ℕ × Op)) (same : here ≡ ops) (deletes : List (ℕ × Deletion)) (completed : List ℕ) (seats : TicketMaps) (restores : List (ℕ × RestorePlan)) (term at : ℕ) (kind : Kind) (r : IsReadyAt here deletes completed seats restores term at kind) (e : ℕ × Op) (is : e ≡ get_or ops at e) where
+module _ (ops here : List (ℕ × Op)) (same : here ≡ ops) (deletes : List (ℕ × Deletion)) (completed : List ℕ) (seats : TicketMaps) (restores : List (ℕ × RestorePlan))
+    (term at : ℕ) (kind : Kind) (r : IsReadyAt here deletes completed seats restores term at kind) (e : ℕ × Op) (is : e ≡ get_or ops at e) where
   pub read_there : slice_get ops at ≡ Some e
   read_there =
       let there : slice_get ops at ≡ Some r.e = ap (λ es. slice_get es at) (sym same) ∙ r.there in

@@ -11,6 +11,7 @@ use Rattle.esr_core.specs.Ready.{ReadyCleanup}
 use Rattle.esr_core.specs.Steps.{IsOut}
 use Rattle.esr_core.specs.Allowed.{HasTicket}
 use Rattle.esr_core.specs.Laws.Maps.{entry_got, got_entry}
+use Rattle.esr_core.specs.Laws.Tests.{clash}
 use Rattle.esr_ops.specs.Plan.{Plan, Seat, seat_of, seat_out, RestorePlan, TicketMaps, IsPlanOf}
 use Rattle.esr_ops.specs.Inside.{plan_with, IsProgress}
 use Rattle.esr_ops.specs.Units.{IsLowest}
@@ -19,7 +20,7 @@ use Rattle.esr_ops.specs.Entries.{eqb_is, find-member}
 use Rattle.esr_progress.specs.Lookups.{got_op as law-got_op, got_delete as law-got_delete}
 use Rattle.esr_ops.specs.Numbers.{found_member}
 use Rattle.esr_progress.specs.Plans.{ticket_of, seat_there}
-use Rattle.esr_ops.specs.Tests.{clash, any_true, any_here}
+use Rattle.esr_ops.specs.Tests.{any_true, any_here}
 use Rattle.esr_progress.proofs.Choices.{is_false}
 
 -- ---- the first of a list
@@ -59,7 +60,8 @@ none_below : (x : ℕ × Seat) (es : List (ℕ × Seat)) → T (fin.is_sorted na
 none_below x es r p s (inl is) lt = let same : x.0 ≡ p = ap (λ (z : ℕ × Seat). z.0) is in omega (arith, same, lt)
 none_below x es r p s (inr m) lt = let over : x.0 < p = above x.0 p s es (left_of _ _ r) m in omega (arith, over, lt)
 
-module _ (ops : List (ℕ × Op)) (deletes : List (ℕ × Deletion)) (completed : List ℕ) (seats : TicketMaps) (next : ℕ) (restores : List (ℕ × RestorePlan)) (now : Plan) (view : plan_with ops deletes completed seats next restores ≡ now) (h : IsProgress ops deletes next restores) where
+module _ (ops : List (ℕ × Op)) (deletes : List (ℕ × Deletion)) (completed : List ℕ) (seats : TicketMaps) (next : ℕ) (restores : List (ℕ × RestorePlan))
+    (now : Plan) (view : plan_with ops deletes completed seats next restores ≡ now) (h : IsProgress ops deletes next restores) where
   module _ (w : World) (is : IsPlanOf w now) where
     got_op : (q : ℕ) → fin.get w.ops q ≡ fin.find nat_cmp q ops
     got_op = law-got_op ops deletes completed seats next restores now view h w is

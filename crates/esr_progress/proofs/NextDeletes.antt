@@ -11,6 +11,7 @@ use Rattle.esr_core.specs.Ready.{ReadyDelete, ReadyCleanup}
 use Rattle.esr_core.specs.Steps.{plain_ticket}
 use Rattle.esr_core.specs.Turns.{cleaning_ticket}
 use Rattle.esr_core.specs.After.{taken_by}
+use Rattle.esr_core.specs.Laws.Tests.{clash}
 use Rattle.esr_formats.specs.Ids.{number_of}
 use Rattle.esr_formats.specs.Roots.{root_of}
 use Rattle.esr_formats.specs.Clusters.{count_of}
@@ -29,7 +30,7 @@ use Rattle.esr_ops.specs.Entries.{find-member}
 use Rattle.esr_ops.specs.Lists.{position-None, Has-at}
 use Rattle.esr_progress.specs.Lookups.{find_delete, find_op}
 use Rattle.esr_ops.specs.Numbers.{entries_from, found_member}
-use Rattle.esr_ops.specs.Tests.{any_true, clash, any_here, first_place}
+use Rattle.esr_ops.specs.Tests.{any_true, any_here, first_place}
 use Rattle.esr_progress.proofs.Choices.{is_false, place_lower}
 use Rattle.esr_progress.proofs.Cleanups.{cleanup_tested, cleanup_by}
 use Rattle.esr_progress.proofs.NextUnits.{some_out, some_barred, some_swapping, none_out, none_barred, none_swapping, ops_is, ticketed}
@@ -68,7 +69,8 @@ pub copied_numbers : (ops copied : List (ℕ × Op)) → copied ≡ ops → (del
 copied_numbers ops copied same deletes completed seats next restores now view h =
     ap numbers_of (same ∙ sym (entries_from ops h.ops_numbered.rise)) ∙ ap (λ (p : Plan). numbers_of (fin.entries p.ops)) view
 
-module _ (ops : List (ℕ × Op)) (deletes : List (ℕ × Deletion)) (completed : List ℕ) (seats : TicketMaps) (next : ℕ) (restores : List (ℕ × RestorePlan)) (now : Plan) (view : plan_with ops deletes completed seats next restores ≡ now) (h : IsProgress ops deletes next restores)
+module _ (ops : List (ℕ × Op)) (deletes : List (ℕ × Deletion)) (completed : List ℕ) (seats : TicketMaps) (next : ℕ)
+    (restores : List (ℕ × RestorePlan)) (now : Plan) (view : plan_with ops deletes completed seats next restores ≡ now) (h : IsProgress ops deletes next restores)
     (root : RootData) (safe term : ℕ) (w : World) (is : IsGivenIn now root safe term w) where
   rise : Rise (numbers_of deletes)
   rise = h.deletes_numbered.rise
@@ -169,7 +171,8 @@ module _ (ops : List (ℕ × Op)) (deletes : List (ℕ × Deletion)) (completed 
     ops_stay = ops_is ops deletes completed seats next restores now view h root safe term w is
 
     picked : ((d.1.failed ≡ true) × (is_out_of seats term d.0 ≡ false))
-        ⊎ (((d.1.failed ≡ false) × (d.1.clean ≡ false) × (barred deletes d.0 ≡ false) × (preceded ops d.0 ≡ false) × (is_swapping seats term ≡ false)) ⊎ ((d.1.failed ≡ false) × (d.1.clean ≡ true) × (not (cleanup_waits ops deletes seats d.0) ≡ true)))
+        ⊎ (((d.1.failed ≡ false) × (d.1.clean ≡ false) × (barred deletes d.0 ≡ false) × (preceded ops d.0 ≡ false) × (is_swapping seats term ≡ false))
+        ⊎ ((d.1.failed ≡ false) × (d.1.clean ≡ true) × (not (cleanup_waits ops deletes seats d.0) ≡ true)))
     picked = so_ready d.1.failed (is_out_of seats term d.0) d.1.clean (not (cleanup_waits ops deletes seats d.0)) (barred deletes d.0) (preceded ops d.0) (is_swapping seats term) here.0
 
     is_idle : d.1.failed ≡ true → is_out_of seats term d.0 ≡ false

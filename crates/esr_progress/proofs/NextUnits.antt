@@ -18,6 +18,7 @@ use Rattle.esr_core.specs.Steps.{all_done, is_done, given, Largest, final_ticket
 use Rattle.esr_core.specs.Generations.{IsLive}
 use Rattle.esr_core.specs.Allowed.{GivesShard}
 use Rattle.esr_core.specs.After.{shard_of, taken_by, taken_shard}
+use Rattle.esr_core.specs.Laws.Tests.{clash}
 use Rattle.esr_formats.specs.Ids.{number_of}
 use Rattle.esr_formats.specs.Roots.{root_of}
 use Rattle.esr_formats.specs.Clusters.{count_of}
@@ -43,7 +44,7 @@ use Rattle.esr_progress.specs.Lookups.{find_op as law-find_op, find_delete as la
 use Rattle.esr_ops.specs.Most.{most_like}
 use Rattle.esr_ops.specs.Numbers.{entries_from, found_member}
 use Rattle.esr_progress.specs.Plans.{restore_of_plan}
-use Rattle.esr_ops.specs.Tests.{clash, any_here, any_true, place_below, first_place, place_within, place_of}
+use Rattle.esr_ops.specs.Tests.{any_here, any_true, place_below, first_place, place_within, place_of}
 use Rattle.esr_progress.proofs.Choices.{number_below, is_false, NoneWaits, says_free, goes_by, free_says, not_earliest, all_done_by, goes_on, none_earlier, has_by, stopped_by, picked, place_lower, Has-taken, shard_found, free_alike, stands_taken}
 use Rattle.esr_progress.proofs.Entries.{FirstAt, first_at, from_set}
 use Rattle.esr_progress.proofs.Numbers.{numbers-set}
@@ -105,7 +106,7 @@ waits_read (BeingRead k) e = tt
 waits_read (Restored files bytes) e = true≢false (sym e)
 waits_read (NotRestored why) e = true≢false (sym e)
 
-if_some : {A : Type 0} (o : Option A) (P : A → Type 0) (x : A) → o ≡ Some x → IfSome o P → P x
+pub if_some : {A : Type 0} (o : Option A) (P : A → Type 0) (x : A) → o ≡ Some x → IfSome o P → P x
 if_some {A} o P x e h = subst (λ (z : Option A). IfSome z P) e h
 
 -- the entry of a number that rises
@@ -137,7 +138,8 @@ same_numbers ops here same deletes completed seats next restores now view h at e
     ap numbers_of (list_is ∙ ap (λ es. set es at (given_entry seat ticket e)) same) ∙ given_numbers ops h.ops_numbered.rise at e there seat ticket
     ∙ ap numbers_of (sym (entries_from ops h.ops_numbered.rise)) ∙ ap (λ (p : Plan). numbers_of (fin.entries p.ops)) view
 
-module _ (ops : List (ℕ × Op)) (deletes : List (ℕ × Deletion)) (completed : List ℕ) (seats : TicketMaps) (next : ℕ) (restores : List (ℕ × RestorePlan)) (now : Plan) (view : plan_with ops deletes completed seats next restores ≡ now) (h : IsProgress ops deletes next restores)
+module _ (ops : List (ℕ × Op)) (deletes : List (ℕ × Deletion)) (completed : List ℕ) (seats : TicketMaps) (next : ℕ)
+    (restores : List (ℕ × RestorePlan)) (now : Plan) (view : plan_with ops deletes completed seats next restores ≡ now) (h : IsProgress ops deletes next restores)
     (root : RootData) (safe term : ℕ) (w : World) (is : IsGivenIn now root safe term w) where
   rise : Rise (numbers_of ops)
   rise = h.ops_numbered.rise
@@ -234,7 +236,9 @@ module _ (ops : List (ℕ × Op)) (deletes : List (ℕ × Deletion)) (completed 
     final_ready : (results : List ShardResult) → ReadyFinalize w e.0 e.1 results → is_final ops deletes completed seats term e ≡ true
     final_ready results r = and_from _ _ (all_done_by e.1.shards results r.done) (and_from _ _
         (ap not (is_false _ (λ s. let (k, out) = some_swapping s in r.no_swap k out)))
-        (true_from_ne_false _ (λ s. let x = not_earliest ops rise deletes completed e.0 s in r.earliest x.p x.q (find_op x.p ∙ x.found) (goes_by x.q x.goes) (none_barred x.p x.unbarred) (subst (λ (ns : List ℕ). Before ns x.p e.0) completed_is x.before))))
+        (true_from_ne_false _ (λ s.
+        let x = not_earliest ops rise deletes completed e.0 s in
+        r.earliest x.p x.q (find_op x.p ∙ x.found) (goes_by x.q x.goes) (none_barred x.p x.unbarred) (subst (λ (ns : List ℕ). Before ns x.p e.0) completed_is x.before))))
 
     ready_final : (results : List ShardResult) → has_stopped e.1 ≡ false → barred deletes e.0 ≡ false → AllDone e.1.shards results → is_final ops deletes completed seats term e ≡ true → ReadyFinalize w e.0 e.1 results
     ready_final results goes unbarred done final =
@@ -246,7 +250,8 @@ module _ (ops : List (ℕ × Op)) (deletes : List (ℕ × Deletion)) (completed 
           goes = goes_by e.1 goes;
           no_barrier = none_barred e.0 unbarred;
           no_swap = none_swapping (not-true _ swap);
-          earliest = λ p q f g b before. none_earlier ops rise deletes completed e.0 early (record { p = p; q = q; found = sym (find_op p) ∙ f; goes = goes_on q g; unbarred = is_false _ (λ s. b (some_barred p s)); before = subst (λ (ns : List ℕ). Before ns p e.0) (sym completed_is) before });
+          earliest = λ p q f g b before. none_earlier ops rise deletes completed e.0 early
+              (record { p = p; q = q; found = sym (find_op p) ∙ f; goes = goes_on q g; unbarred = is_false _ (λ s. b (some_barred p s)); before = subst (λ (ns : List ℕ). Before ns p e.0) (sym completed_is) before });
         }
 
     drop_ready : LeavesSnap w e.0 → (has_stopped e.1 ≡ true) × (is_out_of seats term e.0 ≡ false)
@@ -407,7 +412,8 @@ module _ (ops : List (ℕ × Op)) (deletes : List (ℕ × Deletion)) (completed 
 
         back : (g : ℕ) → IsLive w.root w.ops index number g → IsLiveIn root ops index number g
         back g (inl x) = inl (subst (λ (r : RootData). Generation r index number g) is.root_is x)
-        back g (inr (uuid, d)) = inr ((d.number, d.op), find-member d.number ops d.op (sym (find_op d.number) ∙ d.there), (d.s, d.s_there, record { r = d.r; state = d.state; index_is = d.index_is; number_is = d.shard_is; generation_is = d.generation_is }))
+        back g (inr (uuid, d)) =
+            inr ((d.number, d.op), find-member d.number ops d.op (sym (find_op d.number) ∙ d.there), (d.s, d.s_there, record { r = d.r; state = d.state; index_is = d.index_is; number_is = d.shard_is; generation_is = d.generation_is }))
 
     module _ (i : ℕ) (found : ready_of ops deletes completed seats restores term e ≡ Some (ready.Shard i)) (s : ShardWork) (here : slice_get e.1.shards i ≡ Some s) where
       free_at : position (is_free ops restores e.0) e.1.shards ≡ Some i
@@ -417,7 +423,8 @@ module _ (ops : List (ℕ × Op)) (deletes : List (ℕ × Deletion)) (completed 
       before_it = (first_place (is_free ops restores e.0) e.1.shards i s free_at here).1
 
       is_ready : ReadyShard w e.0 e.1 s
-      is_ready = ready_shard at e there s (picked ops deletes completed seats restores term e (Some (ready.Shard i)) found).0 (picked ops deletes completed seats restores term e (Some (ready.Shard i)) found).2 (Has-at e.1.shards i s here) (first_place (is_free ops restores e.0) e.1.shards i s free_at here).0
+      is_ready = ready_shard at e there s (picked ops deletes completed seats restores term e (Some (ready.Shard i)) found).0
+          (picked ops deletes completed seats restores term e (Some (ready.Shard i)) found).2 (Has-at e.1.shards i s here) (first_place (is_free ops restores e.0) e.1.shards i s free_at here).0
 
       is_found : (index number : ℕ) → s.ref.id ≡ index → s.number ≡ number → shard_of e.1.shards index number ≡ Some s
       is_found index number id n = shard_found index number e.1.shards i s here id n

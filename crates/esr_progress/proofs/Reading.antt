@@ -66,7 +66,8 @@ module _ (w : World) (p : Plan) (is : IsPlanOf w p) (k : ℕ) (state : ReadState
         readers = readers_left w p is k (record q { out = false }) refl;
       }
 
-  ended_with : (q : Reader) (r : Restoring) (b c : Bool) → b ≡ c → IsPlanOf (record w { restores = cond b (fin.insert w.restores q.op (record r { shards = map (ended k state) r.shards })) (fin.remove w.restores q.op); readers = fin.insert w.readers k (record q { out = false }) })
+  ended_with : (q : Reader) (r : Restoring) (b c : Bool) → b ≡ c
+      → IsPlanOf (record w { restores = cond b (fin.insert w.restores q.op (record r { shards = map (ended k state) r.shards })) (fin.remove w.restores q.op); readers = fin.insert w.readers k (record q { out = false }) })
       (record p { restores = cond c (fin.insert p.restores q.op (restore_over k (restore_plan r))) (fin.remove p.restores q.op); readers = fin.remove p.readers k })
   ended_with q r true true e =
       ended_in (fin.insert w.restores q.op (record r { shards = map (ended k state) r.shards })) (fin.insert p.restores q.op (restore_over k (restore_plan r))) q

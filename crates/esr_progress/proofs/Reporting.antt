@@ -87,7 +87,8 @@ module _ (w : World) (p : Plan) (is : IsPlanOf w p) (k : ℕ) where
         (subst (λ (o : Option Swap). IsPlanOf (delete_settled_by f w k t o t.raised) (delete_left p k (Some (seat_of t)))) (sym swaps)
         (subst (λ (o : Option ℕ). IsPlanOf (delete_settled_by f w k t (Some s) o) (delete_left p k (Some (seat_of t)))) (sym raises)
         (ticket_so (suc n) s.root (dooms f t ++ w.doomed) (fin.remove w.ops t.op) (fin.remove p.ops t.op) (deletes_left w t) (cond t.clean p.deletes (fin.remove p.deletes t.op)) w.completed p.completed
-        (record t { settled = true }) (fin.insert p.seats k (seat_settled (seat_of t))) (λ j. fin.remove (is.ops j) t.op) (λ j. cond t.clean (is.deletes j) (fin.remove (is.deletes j) t.op)) is.completed (settling t (ap (λ (u : Ticket). u.out) (sym is_t) ∙ out)))))) there at)
+        (record t { settled = true }) (fin.insert p.seats k (seat_settled (seat_of t))) (λ j. fin.remove (is.ops j) t.op)
+        (λ j. cond t.clean (is.deletes j) (fin.remove (is.deletes j) t.op)) is.completed (settling t (ap (λ (u : Ticket). u.out) (sym is_t) ∙ out)))))) there at)
 
     -- ---- its op goes on
 
@@ -98,7 +99,8 @@ module _ (w : World) (p : Plan) (is : IsPlanOf w p) (k : ℕ) where
         inner : (t : Ticket) (o : Option Op) → IsPlanOf (after.done_by w k r t o) (done_by p k r (seat_of t) o)
         inner t None = is
         inner t (Some op) =
-            ticket_so w.safe w.root w.doomed (fin.insert w.ops t.op (op_marked k r op)) (fin.insert p.ops t.op (op_marked k r op)) w.deletes p.deletes (completing w.completed t.op (op_marked k r op).shards) (completing p.completed t.op (op_marked k r op).shards)
+            ticket_so w.safe w.root w.doomed (fin.insert w.ops t.op (op_marked k r op)) (fin.insert p.ops t.op (op_marked k r op)) w.deletes p.deletes
+            (completing w.completed t.op (op_marked k r op).shards) (completing p.completed t.op (op_marked k r op).shards)
             (ended t) (fin.remove p.seats k) (λ j. fin.insert (is.ops j) t.op (op_marked k r op)) is.deletes (λ j. completing (is.completed j) t.op (op_marked k r op).shards) (seats_left w p is k (ended t) refl)
 
     not_is : (b : Bool) → cond b false true ≡ not b

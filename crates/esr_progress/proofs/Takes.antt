@@ -25,7 +25,8 @@ use Rattle.esr_ops.specs.Numbers.{entries_from}
 
 -- ---- a ticket more
 
-module _ (ops new : List (ℕ × Op)) (deletes kept : List (ℕ × Deletion)) (completed after : List ℕ) (seats more : TicketMaps) (next : ℕ) (restores stay : List (ℕ × RestorePlan)) (now : Plan) (is : plan_with ops deletes completed seats next restores ≡ now) (same : kept ≡ deletes) (stays : stay ≡ restores) where
+module _ (ops new : List (ℕ × Op)) (deletes kept : List (ℕ × Deletion)) (completed after : List ℕ) (seats more : TicketMaps) (next : ℕ)
+    (restores stay : List (ℕ × RestorePlan)) (now : Plan) (is : plan_with ops deletes completed seats next restores ≡ now) (same : kept ≡ deletes) (stays : stay ≡ restores) where
   pub progress_with : IsProgress ops deletes next restores → numbers_of new ≡ numbers_of (fin.entries now.ops) → IsProgress new kept next stay
   progress_with h e =
       let numbers : numbers_of ops ≡ numbers_of new = sym (e ∙ ap (λ (p : Plan). numbers_of (fin.entries p.ops)) (sym is) ∙ ap numbers_of (entries_from ops h.ops_numbered.rise)) in
@@ -45,7 +46,8 @@ module _ (ops new : List (ℕ × Op)) (deletes kept : List (ℕ × Deletion)) (c
       ∙ ap (λ (p : Plan). record p { ops = fin.from_entries new; seats = fin.insert p.seats p.next_ticket s; next_ticket = suc p.next_ticket }) is
 
 -- a restore's ticket more
-module _ (ops kept_ops : List (ℕ × Op)) (deletes kept : List (ℕ × Deletion)) (completed after : List ℕ) (seats more : TicketMaps) (next : ℕ) (restores new : List (ℕ × RestorePlan)) (now : Plan) (is : plan_with ops deletes completed seats next restores ≡ now)
+module _ (ops kept_ops : List (ℕ × Op)) (deletes kept : List (ℕ × Deletion)) (completed after : List ℕ) (seats more : TicketMaps)
+    (next : ℕ) (restores new : List (ℕ × RestorePlan)) (now : Plan) (is : plan_with ops deletes completed seats next restores ≡ now)
     (same_ops : kept_ops ≡ ops) (same : kept ≡ deletes) where
   pub progress_read : IsProgress ops deletes next restores → numbers_of new ≡ numbers_of (fin.entries now.restores) → IsProgress kept_ops kept next new
   progress_read h e =

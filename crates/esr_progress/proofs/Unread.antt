@@ -16,6 +16,7 @@ use Rattle.esr_core.specs.Restores.{restore_shard, handed, reader_of, shard_hand
 use Rattle.esr_core.specs.Steps.{given}
 use Rattle.esr_core.specs.Allowed.{GivesRestore}
 use Rattle.esr_core.specs.After.{taken_by, taken_restore, taken_restore_shard}
+use Rattle.esr_core.specs.Laws.Tests.{clash}
 use Rattle.esr_formats.specs.Roots.{root_of}
 use Rattle.esr_formats.specs.Clusters.{count_of}
 use Rattle.esr_ops.specs.declared.unit.Work.{Work as CodeWork}
@@ -31,10 +32,10 @@ use Rattle.esr_ops.specs.Entries.{eqb_is, get_from, find-member}
 use Rattle.esr_ops.specs.Lists.{position-None, Has-at, position-map}
 use Rattle.esr_ops.specs.Numbers.{entries_from, found_member}
 use Rattle.esr_progress.specs.Plans.{restore_of_plan, restores_put, restores_put_count}
-use Rattle.esr_ops.specs.Tests.{place_within, clash, place_of, place_below, first_place}
+use Rattle.esr_ops.specs.Tests.{place_within, place_of, place_below, first_place}
 use Rattle.esr_progress.proofs.Choices.{is_false, place_lower, Has-taken, stands_taken}
 use Rattle.esr_progress.proofs.Entries.{from_set}
-use Rattle.esr_progress.proofs.NextUnits.{entry_at}
+use Rattle.esr_progress.proofs.NextUnits.{entry_at, if_some}
 use Rattle.esr_progress.proofs.Numbers.{numbers-set}
 use Rattle.esr_progress.proofs.Plans.{readers_put}
 use Rattle.esr_progress.proofs.Reading.{works-handed}
@@ -86,15 +87,13 @@ restore_found index number (x ∷ xs) (suc i) s there id n other =
     let not_this : ((x.ref.id == index) && (x.number == number)) ≡ false = is_false _ (λ e. let (a, b) = and_parts _ _ e in other x (inl refl) (eqb_is _ _ a) (eqb_is _ _ b)) in
     ap (λ c. cond c (Some x) (restore_shard xs index number)) not_this ∙ restore_found index number xs i s there id n (λ z m. other z (inr m))
 
-if_some : {A : Type 0} (o : Option A) (P : A → Type 0) (x : A) → o ≡ Some x → IfSome o P → P x
-if_some {A} o P x e h = subst (λ (z : Option A). IfSome z P) e h
-
 pub restore_numbers : (restores here : List (ℕ × RestorePlan)) → here ≡ restores → (ops : List (ℕ × Op)) (deletes : List (ℕ × Deletion)) (completed : List ℕ) (seats : TicketMaps) (next : ℕ) (now : Plan)
     → plan_with ops deletes completed seats next restores ≡ now
     → IsProgress ops deletes next restores → (at : ℕ) (e : ℕ × RestorePlan) → slice_get restores at ≡ Some e → (shard : ShardId) (ticket : ℕ) (given_list : List (ℕ × RestorePlan))
     → IfSome (slice_get here at) (λ (x : ℕ × RestorePlan). given_list ≡ set here at (given_restore shard ticket x)) → numbers_of given_list ≡ numbers_of (fin.entries now.restores)
 restore_numbers restores here same ops deletes completed seats next now view h at e there shard ticket given_list given_is =
-    let list_is : given_list ≡ set here at (given_restore shard ticket e) = if_some (slice_get here at) (λ (x : ℕ × RestorePlan). given_list ≡ set here at (given_restore shard ticket x)) e (ap (λ es. slice_get es at) same ∙ there) given_is in
+    let list_is : given_list ≡ set here at (given_restore shard ticket e) =
+    if_some (slice_get here at) (λ (x : ℕ × RestorePlan). given_list ≡ set here at (given_restore shard ticket x)) e (ap (λ es. slice_get es at) same ∙ there) given_is in
     ap numbers_of (list_is ∙ ap (λ es. set es at (given_restore shard ticket e)) same) ∙ numbers-set restores e.0 at (given_restore shard ticket e).1 (entry_at restores h.restores_numbered.rise at e there)
     ∙ ap numbers_of (sym (entries_from restores h.restores_numbered.rise)) ∙ ap (λ (p : Plan). numbers_of (fin.entries p.restores)) view
 
@@ -193,7 +192,8 @@ module _ (ops : List (ℕ × Op)) (deletes : List (ℕ × Deletion)) (completed 
 
         -- the list in which it is given
         abbrev with_read : ShardId → ℕ → Plan
-        with_read own ticket = record now { restores = fin.from_entries (set restores at (given_restore own ticket e)); readers = fin.insert now.readers now.next_ticket (reader_of_code (record { op = e.0; shard = own })); next_ticket = suc now.next_ticket }
+        with_read own ticket =
+            record now { restores = fin.from_entries (set restores at (given_restore own ticket e)); readers = fin.insert now.readers now.next_ticket (reader_of_code (record { op = e.0; shard = own })); next_ticket = suc now.next_ticket }
 
         module _ (own : ShardId) (ticket : ℕ) (ticket_is : ticket ≡ seats.next) (own_id : s.ref.id ≡ own.index.number) (own_number : s.number ≡ own.number) where
           count : ticket ≡ w.next_ticket
@@ -211,7 +211,8 @@ module _ (ops : List (ℕ × Op)) (deletes : List (ℕ × Deletion)) (completed 
           put_is : fin.from_entries {R = nat_cmp} (set restores at (given_restore own ticket e)) ≡ fin.insert now.restores e.0 (given_restore own ticket e).1
           put_is = from_set restores e.0 at (given_restore own ticket e).1 (entry_at restores rise at e there) ∙ ap (λ (p : Plan). fin.insert p.restores e.0 (given_restore own ticket e).1) view
 
-          handed_plan : IsPlanOf (shard_handed w e.0 r s) (record now { restores = fin.insert now.restores e.0 (given_restore own ticket e).1; readers = fin.insert now.readers now.next_ticket (reader_of_code (record { op = e.0; shard = own })); next_ticket = suc now.next_ticket })
+          handed_plan : IsPlanOf (shard_handed w e.0 r s)
+              (record now { restores = fin.insert now.restores e.0 (given_restore own ticket e).1; readers = fin.insert now.readers now.next_ticket (reader_of_code (record { op = e.0; shard = own })); next_ticket = suc now.next_ticket })
           handed_plan = record {
             ops = is.ops;
             deletes = is.deletes;
@@ -229,7 +230,8 @@ module _ (ops : List (ℕ × Op)) (deletes : List (ℕ × Deletion)) (completed 
           takes_it index number uuid id n f =
               subst (λ (o : Option Restoring). IsPlanOf (taken_restore w e.0 index number o) (with_read own ticket)) (sym open_one.1)
               (subst (λ (o : Option RestoreShard). IsPlanOf (taken_restore_shard w e.0 r o) (with_read own ticket)) (sym (is_found index number id n))
-              (subst (λ (m : fin.FinMap nat_cmp RestorePlan). IsPlanOf (shard_handed w e.0 r s) (record now { restores = m; readers = fin.insert now.readers now.next_ticket (reader_of_code (record { op = e.0; shard = own })); next_ticket = suc now.next_ticket }))
+              (subst (λ (m : fin.FinMap nat_cmp RestorePlan).
+              IsPlanOf (shard_handed w e.0 r s) (record now { restores = m; readers = fin.insert now.readers now.next_ticket (reader_of_code (record { op = e.0; shard = own })); next_ticket = suc now.next_ticket }))
               (sym put_is) handed_plan))
 
           takes_work : (work : CodeWork) (copy : Copied) → IsRestoreWork e.1 (read_work r.place s) work → (f : Formats) → IsPlanOf (taken_by f w e.0 (given_by work copy) (fin.get w.ops e.0)) (with_read own ticket)

@@ -1,6 +1,6 @@
 -- Laws of worlds whose plan is given: their tickets and restores.
-use Rattle.std.proofs.Common.{◌≡◌, ℕ, ◌+◌, ◌-◌, Bool, true, false, cond, eqb, Option, Some, None, option_map, refl, sym, ap, ◌∙◌, true≢false, ◌||◌, List, [], ◌∷◌, map}
-use Rattle.std.specs.Prelude.{is_some, not}
+use Rattle.std.proofs.Common.{◌≡◌, ℕ, ◌+◌, ◌-◌, Bool, true, false, cond, eqb, Option, Some, None, option_map, refl, sym, ap, ◌∙◌, ◌||◌, List, [], ◌∷◌, map}
+use Rattle.std.specs.Prelude.{is_some}
 use Rattle.std.specs.Cmp.{nat_cmp_total}
 use Rattle.std.specs.FinMap as fin
 use Rattle.esr_core.specs.World.{World, Restoring, Reader, Ticket, ReadState, Unread, BeingRead, Restored, NotRestored, RestoreShard}
@@ -72,10 +72,6 @@ module _ (w : World) (p : Plan) (is : IsPlanOf w p) where
   restore_of_plan o x e = got_restore (fin.get w.restores o) x (sym e ∙ is.restores o)
 
 -- ---- what each report changes
-
-pub is_there_by : (b : Bool) → not b ≡ false → b ≡ true
-is_there_by true e = refl
-is_there_by false e = absurd (true≢false e)
 
 module _ (place : Bytes) where
   waits_one : (state : ReadState) → waits state ≡ shards.waits (read_state state)

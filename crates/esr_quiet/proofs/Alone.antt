@@ -1,6 +1,5 @@
 -- No ticket of a cleanup is out while a verification is open.
-use Rattle.std.proofs.Common.{◌≡◌, ◌≢◌, ◌⊎◌, ℕ, zero, suc, Bool, true, false, true≢false, if◌then◌else◌, List, [], ◌∷◌, ◌++◌, append-nil, append_assoc, Option, Some, None, refl, sym, ap, ◌∙◌, subst, inl, inr, nat_cmp}
-use Rattle.std.specs.FinMap.{FinMap}
+use Rattle.std.proofs.Common.{◌≡◌, ◌≢◌, ◌⊎◌, ℕ, zero, suc, Bool, true, false, true≢false, if◌then◌else◌, List, [], ◌∷◌, ◌++◌, append-nil, append_assoc, Option, Some, None, refl, sym, ap, ◌∙◌, subst, inl, inr}
 use Rattle.std.specs.FinMap as fin
 use Rattle.esr_model.specs.Names.{BlobName}
 use Rattle.esr_model.specs.Values.{Bytes, Formats}
@@ -16,13 +15,11 @@ use Rattle.esr_desk.specs.Start.{Start, formats_of, world_of, or_no_ticket}
 use Rattle.esr_quiet.specs.Smooth.{AreTestsApart}
 use Rattle.esr_quiet.specs.CallerSteps.{caller_one}
 use Rattle.esr_core.specs.Laws.NumberMaps.{some_none, was_in}
-use Rattle.esr_quiet.specs.PrefixLaws.{world_both}
+use Rattle.esr_core.specs.Laws.Maps.{Tickets}
+use Rattle.esr_core.specs.Laws.Histories.{world_parts}
 
 abbrev pub IsAlone : World → Type 0
 IsAlone w = (id k : ℕ) (t : Ticket) → w.caller.drawn ≡ Some id → fin.get w.tickets k ≡ Some t → t.clean ≡ true → t.out ≡ true → ⊥
-
-abbrev Tickets : Type 0
-Tickets = FinMap nat_cmp Ticket
 
 abbrev NoneCleans : Tickets → Type 0
 NoneCleans tickets = (k : ℕ) (t : Ticket) → fin.get tickets k ≡ Some t → t.clean ≡ true → t.out ≡ true → ⊥
@@ -55,7 +52,7 @@ module _ (tickets : Tickets) (h : NoneCleans tickets) where
 abbrev pub OneChange : Type 0
 OneChange = (f : Formats) (w : World) (who : ℕ) (step : Step) (reply : Reply) (image : Option Image) → StepChange f w who step (answered f w who step reply image)
 
-abbrev IsTake : Step → Type 0
+abbrev pub IsTake : Step → Type 0
 IsTake TakeStep = Unit {0}
 IsTake step = ⊥
 
@@ -175,10 +172,11 @@ module _ (change : OneChange) (s : Start) (log : List Moment) (image : Image) (o
       let next : NoneCleans (answered f w m.entry.who m.entry.step m.entry.reply m.image).tickets = elim (drawn_was f w.caller m.entry.who m.entry.step m.entry.reply m.image id now) [
         | inl was ↦ by_step f w (λ j u. h id j u was) change m.entry.who m.entry.step m.entry.reply m.image (λ ticket op gave. some_none id (sym was ∙ apart.given front back m ticket op is gave))
         | inr draws ↦
-            kept f w (λ j u e cleans is_out. true≢false (sym is_out ∙ sym (ap (λ (o : Option Ticket). (or_no_ticket o).out) e) ∙ apart.drawn front back m is draws.0 draws.1 j (ap (λ (o : Option Ticket). (or_no_ticket o).clean) e ∙ cleans)))
+            kept f w
+            (λ j u e cleans is_out. true≢false (sym is_out ∙ sym (ap (λ (o : Option Ticket). (or_no_ticket o).out) e) ∙ apart.drawn front back m is draws.0 draws.1 j (ap (λ (o : Option Ticket). (or_no_ticket o).clean) e ∙ cleans)))
             m.entry.who m.entry.step (answered f w m.entry.who m.entry.step m.entry.reply m.image) (change f w m.entry.who m.entry.step m.entry.reply m.image) (λ takes. subst IsTake draws.1 takes)
       ] in
-      next k t (ap (λ (x : World). fin.get x.tickets k) (sym (world_both f front (m ∷ []) s.world)) ∙ there) clean out
+      next k t (ap (λ (x : World). fin.get x.tickets k) (sym (world_parts f front (m ∷ []) s.world)) ∙ there) clean out
 
   along : (done rest back : List Moment) → log ≡ done ++ (rest ++ back) → AloneAt done → AloneAt (done ++ rest)
   along done [] back is h = subst AloneAt (sym (append-nil done)) h

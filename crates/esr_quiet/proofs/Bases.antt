@@ -57,7 +57,8 @@ module _ (f : Formats) (w : World) (shelf : List Shelved) (l : Law f w shelf) (k
   drawn_above : (e : FileEntry) → Has stands.held.files e → 1 ≤ t.drawn → t.first ≤ e.name → ⊥
   drawn_above e there drew above =
       let below : e.name < t.first =
-      wrote.fresh index number base stands.held work base_is (record { bytes = stands.held_reads.bytes; there = stands.held_reads.there.0; reads = stands.held_reads.reads }) e there t.first (record { from = omega arith; below = omega (arith, drew) }) in
+      wrote.fresh index number base stands.held work base_is (record { bytes = stands.held_reads.bytes; there = stands.held_reads.there.0; reads = stands.held_reads.reads }) e there t.first
+      (record { from = omega arith; below = omega (arith, drew) }) in
       omega (arith, below, above)
 
   -- and isn't ahead of the ticket

@@ -12,7 +12,7 @@ use Rattle.esr_model.specs.Reach.{Reached}
 use Rattle.esr_core.specs.World.{World, Reader, Caller, no_caller, HeldIn}
 use Rattle.esr_core.specs.Restores.{WasRead}
 use Rattle.esr_core.specs.Entry.{Reason, Why, OfDepot, OfSource, OfChange, OfAbsence, OfUnreadable, OfAhead, OfTaken, OfAbort, OfIdsSpent, OfGenerationsSpent, OfTarget, OfPrint, OfDisagreement, Read, ReadBlob, Step, LookStep, ReadStep, Reply, WasFetched, WasAbsent, DepotFault, Refused, Moment}
-use Rattle.esr_core.specs.After.{is_heard, told_blob, blobs_in, caller_told, caller_read, caller_after, answered, after}
+use Rattle.esr_core.specs.After.{is_heard, told_blob, caller_told, caller_read, caller_after, answered, after}
 use Rattle.esr_core.specs.Allowed as allowed
 use Rattle.esr_core.specs.Allowed.{Fetcher, ByReader, ByCheck, ByVerify, SameBlobs, ReadAllows, ReadFound, ReadMissing, ReadFault, VerifyAllows, DrawingTest, Allows, Allowed}
 use Rattle.esr_core.specs.Laws.OneValue.{reads_one}
@@ -35,7 +35,9 @@ use Rattle.esr_quiet.specs.Prefixes.{Prefixes}
 use Rattle.esr_quiet.specs.OverKept.{IsLawful}
 use Rattle.esr_quiet.specs.Undamaged.{IsDamage, NoCheckFindsDamage}
 use Rattle.esr_core.specs.Laws.NumberMaps.{some_none}
-use Rattle.esr_quiet.specs.PrefixLaws.{world_both, place_of, has_at}
+use Rattle.esr_core.specs.Laws.Asides.{blobs_stay}
+use Rattle.esr_core.specs.Laws.Histories.{world_parts}
+use Rattle.esr_quiet.specs.PrefixLaws.{place_of, has_at}
 use Rattle.esr_quiet.proofs.Prefixes.{told_at}
 use Rattle.esr_quiet.proofs.OverKept.{IsAlive, lawful_front, step_at, smooth_lawful, smooth_alive, alive_before}
 use Rattle.esr_quiet.proofs.Numbers.{Numbered, numbered_from, client_unblocked}
@@ -91,10 +93,6 @@ answered_fetch f w name reply image = refl
 
 fetch_leaves : (f : Formats) (w : World) (m : Moment) (name : BlobName) → m.entry.who ≡ 0 → m.entry.step ≡ ReadStep (ReadBlob name) → answered f w m.entry.who m.entry.step m.entry.reply m.image ≡ w
 fetch_leaves f w m name who step = (λ i. answered f w (who i) (step i) m.entry.reply m.image) ∙ answered_fetch f w name m.entry.reply m.image
-
-same_blobs : (w : World) (image : Option Image) → SameBlobs w image → blobs_in image w.blobs ≡ w.blobs
-same_blobs w None same = refl
-same_blobs w (Some image) same = same
 
 -- ---- what the check that is open has read
 
@@ -185,9 +183,9 @@ module _ (s : Start) (log : List Moment) (lawful : IsLawful s log) (alive : IsAl
       known_fetch f w (λ k q there. ((all_serve front (m ∷ back) is).law.tracked.tickets k q there).0) h name m.entry.reply m.image image.0 image.1 tells_it.0 tells_it.1 in
       let caller : caller_of s (front ++ m ∷ []) ≡ caller_read f w.caller (ReadBlob name) m.entry.reply m.image =
       caller_one s front m ∙ (λ i. caller_after f (caller_of s front) (who i) (step i) m.entry.reply m.image) in
-      let world : world_of s (front ++ m ∷ []) ≡ after f w m = world_both f front (m ∷ []) s.world in
+      let world : world_of s (front ++ m ∷ []) ≡ after f w m = world_parts f front (m ∷ []) s.world in
       let safe : (world_of s (front ++ m ∷ [])).safe ≡ w.safe = ap (λ (x : World). x.safe) world ∙ ap (λ (x : World). x.safe) (fetch_leaves f w m name who step) in
-      let blobs : (world_of s (front ++ m ∷ [])).blobs ≡ w.blobs = ap (λ (x : World). x.blobs) world ∙ same_blobs w m.image tells_it.0 in
+      let blobs : (world_of s (front ++ m ∷ [])).blobs ≡ w.blobs = ap (λ (x : World). x.blobs) world ∙ blobs_stay w m.image tells_it.0 in
       subst (λ (b : Blobs). Known f b (world_of s (front ++ m ∷ [])).safe (caller_of s (front ++ m ∷ []))) (sym blobs)
       (subst (λ (n : ℕ). Known f w.blobs n (caller_of s (front ++ m ∷ []))) (sym safe)
       (subst (Known f w.blobs w.safe) (sym caller) known))
@@ -267,7 +265,7 @@ module _ (s : Start) (log : List Moment) (lawful : IsLawful s log) (alive : IsAl
       }
 
   -- no reached blob is absent
-  found : (before rest : List Moment) (m : Moment) (is : log ≡ before ++ m ∷ rest) (name : BlobName) → IsReached f (world_of s before).blobs (world_of s before).safe name → fin.get (world_of s before).blobs (f.names.text name) ≡ None
+  pub found : (before rest : List Moment) (m : Moment) (is : log ≡ before ++ m ∷ rest) (name : BlobName) → IsReached f (world_of s before).blobs (world_of s before).safe name → fin.get (world_of s before).blobs (f.names.text name) ≡ None
       → ⊥
   found before rest m is name (n, e, how) none =
       let a = agrees before (m ∷ rest) is n e in

@@ -1,5 +1,5 @@
 -- The name that a ticket commits is its own: no other ticket, and no shard that is pending, has it.
-use Rattle.std.proofs.Common.{◌≡◌, ◌⊎◌, ℕ, ◌+◌, ◌<◌, ◌≤◌, List, true, Option, Some, refl, sym, ap, ◌∙◌, subst, inl, inr, arith}
+use Rattle.std.proofs.Common.{◌≡◌, ◌⊎◌, ℕ, ◌+◌, ◌<◌, List, true, Option, Some, refl, sym, ap, ◌∙◌, subst, inl, inr, arith, le_refl}
 use Rattle.std.specs.FinMap as fin
 use Rattle.std.proofs.lemmas.Option.{same_Some, none-some}
 use Rattle.esr_core.specs.Laws.NumberMaps.{split_at}
@@ -25,9 +25,6 @@ one_index i n g j m h e = cc
 snap_no_index : (i n u j m g : ℕ) → ShardSnap i n u ≡ ShardIndex j m g → ⊥
 snap_no_index i n u j m g e = cc
 
-from_one : (g : ℕ) → g ≤ g
-from_one g = omega arith
-
 below_one : (g : ℕ) → g < g + 1
 below_one g = omega arith
 
@@ -36,9 +33,10 @@ abbrev drawing : Ticket → ℕ → ℕ → ℕ → Ticket
 drawing t i n g = record t { work = Shard i n; first = g; drawn = 1 }
 
 drawing_commits : (t : Ticket) (i n g : ℕ) → ShardCommits (drawing t i n g) (ShardIndex i n g)
-drawing_commits t i n g = (refl, record { from = from_one g; below = below_one g })
+drawing_commits t i n g = (refl, record { from = le_refl g; below = below_one g })
 
-module _ (f : Formats) (w : World) (shelf : List Shelved) (law : Law f w shelf) (drawn : ArePlansDrawn w.tickets) (own_tickets : Own w.tickets) (k : ℕ) (t : Ticket) (out : IsOut w k t) (name : BlobName) (bytes : Bytes) (may : MayCommit f t name bytes) where
+module _ (f : Formats) (w : World) (shelf : List Shelved) (law : Law f w shelf) (drawn : ArePlansDrawn w.tickets) (own_tickets : Own w.tickets)
+    (k : ℕ) (t : Ticket) (out : IsOut w k t) (name : BlobName) (bytes : Bytes) (may : MayCommit f t name bytes) where
   no_kind : (info : SnapInfo) (u : Ticket) → ShardCommits u name → Kinds f info name bytes → ⊥
   no_kind info u c (IsSnap e text) = subst (ShardCommits u) e c
   no_kind info u c (IsMeta e text) = subst (ShardCommits u) e c

@@ -14,6 +14,7 @@ use Rattle.esr_formats.specs.Formats.{formats}
 use Rattle.esr_formats.specs.Reasons.{unreadable, unreadable_reads_not}
 use Rattle.esr_formats.specs.Shards.{shard_index_kind}
 use Rattle.esr_source.specs.declared.address.Address.{Address}
+use Rattle.esr_model.specs.Lists.{Has-left}
 use Rattle.esr_desk.specs.declared.fault.FailedObject.TheVariants as objects
 use Rattle.esr_desk.specs.declared.hand.Hand.TheVariants as hands
 use Rattle.esr_desk.specs.declared.fault.Fault.{Fault}
@@ -25,7 +26,7 @@ use Rattle.esr_desk.specs.Evidence.{Evidence, HadFetch, WasUnreadable, FetchShow
 use Rattle.esr_quiet.specs.Caused.{AreCaused}
 use Rattle.esr_quiet.specs.Smooth.{IsSpent, IsSmooth, NoneFailed}
 use Rattle.esr_quiet.specs.Prefixes.{Prefixes}
-use Rattle.esr_quiet.specs.PrefixLaws.{place_of, has_front, has_at, quiet_at, legal_at}
+use Rattle.esr_quiet.specs.PrefixLaws.{place_of, has_at, quiet_at, legal_at}
 use Rattle.esr_quiet.proofs.Prefixes.{told_at}
 use Rattle.esr_quiet.specs.QuietWorlds.{IsSteadyAt}
 use Rattle.esr_quiet.proofs.Bases.{is_there, does_read, not_ahead}
@@ -148,8 +149,10 @@ module _ (s : Start) (log : List Moment) (smooth : IsSmooth s log) (prefixes : P
       let g = at.0 in
       let law = prefixes.lawful front (m ∷ rest) is in
       elim (to_fetch g.t name g.to_fetch) [
-        | inl base ↦ is_there (formats_of s) (world_of s front) law.0 law.1 m.entry.who g.t g.out base.index base.number base.base base.work base.base_is (ap (λ (n : BlobName). fin.get (world_of s front).blobs ((formats_of s).names.text n)) (sym base.name_is) ∙ at.1)
-        | inr from ↦ source_there (formats_of s) (world_of s front) law.0 law.1 m.entry.who g.t g.out from.index from.number from.source from.work from.source_is (ap (λ (n : BlobName). fin.get (world_of s front).blobs ((formats_of s).names.text n)) (sym from.name_is) ∙ at.1)
+        | inl base ↦ is_there (formats_of s) (world_of s front) law.0 law.1 m.entry.who g.t g.out base.index base.number base.base base.work base.base_is
+            (ap (λ (n : BlobName). fin.get (world_of s front).blobs ((formats_of s).names.text n)) (sym base.name_is) ∙ at.1)
+        | inr from ↦ source_there (formats_of s) (world_of s front) law.0 law.1 m.entry.who g.t g.out from.index from.number from.source from.work from.source_is
+            (ap (λ (n : BlobName). fin.get (world_of s front).blobs ((formats_of s).names.text n)) (sym from.name_is) ∙ at.1)
       ]
 
   missing : (front back : List Moment) → log ≡ front ++ back → (who : ℕ) (name : BlobName) → HadFetch hands.Unit front who name WasAbsent → ⊥
@@ -198,7 +201,7 @@ module _ (s : Start) (log : List Moment) (smooth : IsSmooth s log) (prefixes : P
   had : (front back : List Moment) → log ≡ front ++ back → (who : ℕ) (refusal : Refusal) → HadRefusal front who refusal → (m : Moment) × Has log m × (m.entry.reply ≡ Refused refusal)
   had front back is who refusal (step, h) =
       let m : Moment = record { entry = record { who = who; step = step; reply = Refused refusal }; image = h.image } in
-      (m, subst (λ (l : List Moment). Has l m) (sym is) (has_front front back m h.there), refl)
+      (m, subst (λ (l : List Moment). Has l m) (sym is) (Has-left front back m h.there), refl)
 
   -- no name is taken
   pub untaken : (front back : List Moment) → log ≡ front ++ back → (who : ℕ) (name : BlobName) → HadRefusal front who (NameTaken name) → ⊥

@@ -48,7 +48,8 @@ module _ (f : Formats) (w : World) (shelf : List Shelved) (law : Law f w shelf) 
   ]
 
 module _ (f : Formats) (w : World) (shelf : List Shelved) (law : Law f w shelf) (l : IsFree f w) (k : ℕ) (t : Ticket) (out : IsOut w k t) (name : BlobName) (bytes : Bytes) (may : MayCommit f t name bytes)
-    (named : IsStored f name) (absent : fin.get w.blobs (f.names.text name) ≡ None) (v : Ticket) (like : Follows f w t v) (mine : Has v.noted name) (raised_same : v.raised ≡ t.raised) (first_same : v.first ≡ t.first) (drawn_same : v.drawn ≡ t.drawn) where
+    (named : IsStored f name) (absent : fin.get w.blobs (f.names.text name) ≡ None) (v : Ticket) (like : Follows f w t v)
+    (mine : Has v.noted name) (raised_same : v.raised ≡ t.raised) (first_same : v.first ≡ t.first) (drawn_same : v.drawn ≡ t.drawn) where
   abbrev added : Blobs
   added = fin.insert w.blobs (f.names.text name) bytes
 

@@ -1,5 +1,5 @@
 -- A delete or a cleanup that is asked for, and each step of its ticket, keeps what is to be written free, where no call of the container fails.
-use Rattle.std.proofs.Common.{◌≡◌, ◌≢◌, ◌⊎◌, ℕ, suc, ◌+◌, ◌≤◌, List, [], ◌∷◌, ◌++◌, Bool, true, false, Option, Some, None, refl, sym, ap, ◌∙◌, subst, inl, inr, arith}
+use Rattle.std.proofs.Common.{◌≡◌, ◌≢◌, ◌⊎◌, ℕ, suc, ◌+◌, List, [], ◌∷◌, ◌++◌, Bool, true, false, Option, Some, None, refl, sym, ap, ◌∙◌, subst, inl, inr, le_refl}
 use Rattle.std.specs.Prelude.{if◌then◌else◌, filter}
 use Rattle.std.specs.Ordering.{nat_cmp}
 use Rattle.std.specs.FinMap.{FinMap}
@@ -76,11 +76,6 @@ passed {A} test (y ∷ ys) x m = elim (cases_Bool (test y)) [
 left_alone : (left : List ℕ) (was : ShardFiles) (l : SnapList) → Has (surviving left was).snapshots l → Has left l.uuid
 left_alone left was l m = names_has left l.uuid (passed (λ (x : SnapList). names_uuid left x.uuid) was.snapshots l m)
 
--- ---- a plan
-
-not_less : (n : ℕ) → n ≤ n
-not_less n = omega arith
-
 -- ---- a delete that is asked for
 
 module _ (f : Formats) (w : World) (shelf : List Shelved) (law : Law f w shelf) (l : IsFree f w) where
@@ -145,7 +140,8 @@ module _ (f : Formats) (w : World) (shelf : List Shelved) (law : Law f w shelf) 
 
   opens_cleanup : (blobs : Blobs) → Back f blobs w.blobs → IsFree f (record w { deletes = fin.insert w.deletes w.next_op (record { uuids = []; clean = true; failed = false }); next_op = suc w.next_op; blobs = blobs; caller = no_caller })
   opens_cleanup blobs back =
-      framed f w (record w { deletes = fin.insert w.deletes w.next_op (record { uuids = []; clean = true; failed = false }); next_op = suc w.next_op; blobs = blobs; caller = no_caller }) l (came_all f w) (own_all f w l) (waited f w shelf law l) (λ i n g h. inl h) back.were
+      framed f w (record w { deletes = fin.insert w.deletes w.next_op (record { uuids = []; clean = true; failed = false }); next_op = suc w.next_op; blobs = blobs; caller = no_caller }) l
+      (came_all f w) (own_all f w l) (waited f w shelf law l) (λ i n g h. inl h) back.were
       (tests_none f blobs no_caller refl refl)
 
   pub asks_cleanup : (reply : Reply) (image : Option Image) → reply ≢ Refused DepotFault → CleanupAllows w reply → SameBlobs w image → IsFree f (heard_after f w (moment 0 (AskStep Cleanup) reply image))
@@ -176,7 +172,7 @@ module _ (f : Formats) (w : World) (shelf : List Shelved) (law : Law f w shelf) 
     plans blobs back =
         subst (λ o. IsFree f (record (with_given w k (planned f shards w.next_id) o) { next_id = w.next_id + kept_count shards; blobs = blobs })) (sym p.deleting.out.there)
         (framed f w (record w { tickets = fin.insert w.tickets k next; next_id = w.next_id + kept_count shards; blobs = blobs }) l (came_put f w k p.t next p.deleting.out.there like)
-        (own_drawn w.tickets (own_all f w l) k p.t next w.next_id p.deleting.out.there refl (not_less w.next_id) (λ j u e. (law.ids.tickets j u e).drawn)) (waited f w shelf law l) (λ i n g h. inl h) back.were (tests_was f w l blobs back))
+        (own_drawn w.tickets (own_all f w l) k p.t next w.next_id p.deleting.out.there refl (le_refl w.next_id) (λ j u e. (law.ids.tickets j u e).drawn)) (waited f w shelf law l) (λ i n g h. inl h) back.were (tests_was f w l blobs back))
 
   -- ---- it settles
 
@@ -205,7 +201,8 @@ module _ (f : Formats) (w : World) (shelf : List Shelved) (law : Law f w shelf) 
         → (snap : RootSnap) × Has w.root.snapshots snap × (snap.uuid ≡ list.uuid)
     lists_listed i n g x held reads list m =
         let text : Bytes = f.shard_index.text x.index_of in
-        let own : Has (pruned_blobs f s.t.read (left_uuids s.uuids (uuids_of s.t.root)) s.t.first (pruned_shards f s.t.clean s.t.root s.uuids s.t.read)) (ShardIndex i n g, text) = subst (λ (y : Swap). Has y.own (ShardIndex i n g, text)) plan.swap_is x.there in
+        let own : Has (pruned_blobs f s.t.read (left_uuids s.uuids (uuids_of s.t.root)) s.t.first (pruned_shards f s.t.clean s.t.root s.uuids s.t.read)) (ShardIndex i n g, text) =
+        subst (λ (y : Swap). Has y.own (ShardIndex i n g, text)) plan.swap_is x.there in
         let (p, there, is) = own_text f s.t.read (left_uuids s.uuids (uuids_of s.t.root)) (pruned_shards f s.t.clean s.t.root s.uuids s.t.read) s.t.first (ShardIndex i n g) text own in
         let (was, read) = was_read p there in
         let bytes : reads.bytes ≡ f.shard_index.text (surviving left was) = same_Some reads.bytes text (sym reads.there.0 ∙ (written (ShardIndex i n g) text x.there).0) ∙ is ∙ ap (left_text f left) read in
@@ -260,7 +257,8 @@ module _ (f : Formats) (w : World) (shelf : List Shelved) (law : Law f w shelf) 
   fails_by k t there None blobs back = kept f w shelf law l blobs back
   fails_by k t there (Some x) blobs back =
       framed f w (record w { deletes = fin.insert w.deletes t.op (record x { failed = true }); tickets = fin.insert w.tickets k (record t { out = false }); blobs = blobs }) l
-      (came_put f w k t (record t { out = false }) there (ended f w shelf law l t)) (own_put w.tickets (own_all f w l) k t (record t { out = false }) there refl refl refl) (waited f w shelf law l) (λ i n g h. inl h) back.were (tests_was f w l blobs back)
+      (came_put f w k t (record t { out = false }) there (ended f w shelf law l t)) (own_put w.tickets (own_all f w l) k t (record t { out = false }) there refl refl refl)
+      (waited f w shelf law l) (λ i n g h. inl h) back.were (tests_was f w l blobs back)
 
   fails : (k : ℕ) (t : Ticket) → fin.get w.tickets k ≡ Some t → (blobs : Blobs) → Back f blobs w.blobs → IsFree f (record (delete_failed w k (fin.get w.tickets k)) { blobs = blobs })
   fails k t there blobs back = subst (λ o. IsFree f (record (delete_failed w k o) { blobs = blobs })) (sym there) (by (is_stale w t t.work))
@@ -294,5 +292,6 @@ module _ (f : Formats) (w : World) (shelf : List Shelved) (law : Law f w shelf) 
   prunes alone k prune reply image calm i told (SettleDeleteFails j im s present same) = absurd (calm refl)
   prunes alone k prune reply image calm i told (RemovingDoomed j names im r away) = removes_told alone j names im i told r away
   prunes alone k prune reply image calm i told (RemoveDoomedFails j names im r away) = absurd (calm refl)
-  prunes alone k prune reply image calm i told (EndingDelete j im e same) = changed f w shelf law l j e.t e.deleting.out.there (λ (t : Ticket). record t { out = false }) (ended f w shelf law l e.t) refl refl refl (blobs_in im w.blobs) (at_same f w im same)
+  prunes alone k prune reply image calm i told (EndingDelete j im e same) =
+      changed f w shelf law l j e.t e.deleting.out.there (λ (t : Ticket). record t { out = false }) (ended f w shelf law l e.t) refl refl refl (blobs_in im w.blobs) (at_same f w im same)
   prunes alone k prune reply image calm i told (FailingDelete j why im c same) = fails j c.t c.deleting.out.there (blobs_in im w.blobs) (at_same f w im same)

@@ -134,7 +134,8 @@ module _ (f : Formats) (w : World) (shelf : List Shelved) (law : Law f w shelf) 
               | inr other ↦
                   let was : s ≡ x = sym same ∙ other.is in
                   let z_own = own_shard z z_there z_state in
-                  let one : x ≡ z = (law.lawful.sound.carried.ops t.op op op_there).distinct x z x_there z_there (ap (λ (y : ShardWork). y.ref.id) (sym was) ∙ i ∙ sym z_own.0) (ap (λ (y : ShardWork). y.number) (sym was) ∙ n ∙ sym z_own.1) in
+                  let one : x ≡ z =
+                  (law.lawful.sound.carried.ops t.op op op_there).distinct x z x_there z_there (ap (λ (y : ShardWork). y.ref.id) (sym was) ∙ i ∙ sym z_own.0) (ap (λ (y : ShardWork). y.number) (sym was) ∙ n ∙ sym z_own.1) in
                   other.not_held (ap (λ (y : ShardWork). y.state) one ∙ z_state)
             ]
       ]
@@ -148,7 +149,22 @@ module _ (f : Formats) (w : World) (shelf : List Shelved) (law : Law f w shelf) 
         elim (marked_is k (Done r) z) [
           | inr other ↦
               let e : z ≡ d.s = sym other.is ∙ same in
-              inl (inr (uuid, record { number = t.op; op = op; there = op_there; uuid_is = ap (λ (y : Op). y.uuid) h.1 ∙ d.uuid_is; s = z; s_there = z_there; r = d.r; state = ap (λ (y : ShardWork). y.state) e ∙ d.state; index_is = ap (λ (y : ShardWork). y.ref.id) e ∙ d.index_is; shard_is = ap (λ (y : ShardWork). y.number) e ∙ d.shard_is; generation_is = d.generation_is }))
+              inl (inr (
+                uuid,
+                record {
+                  number = t.op;
+                  op = op;
+                  there = op_there;
+                  uuid_is = ap (λ (y : Op). y.uuid) h.1 ∙ d.uuid_is;
+                  s = z;
+                  s_there = z_there;
+                  r = d.r;
+                  state = ap (λ (y : ShardWork). y.state) e ∙ d.state;
+                  index_is = ap (λ (y : ShardWork). y.ref.id) e ∙ d.index_is;
+                  shard_is = ap (λ (y : ShardWork). y.number) e ∙ d.shard_is;
+                  generation_is = d.generation_is;
+                },
+              ))
           | inl held ↦
               let e : record z { state = Done r } ≡ d.s = sym held.is ∙ same in
               let own = own_shard z z_there held.state in
@@ -160,7 +176,12 @@ module _ (f : Formats) (w : World) (shelf : List Shelved) (law : Law f w shelf) 
   ]
 
   pub free_done : (blobs : Blobs) → Back f blobs w.blobs
-      → IsFree f (record w { blobs = blobs; ops = fin.insert w.ops t.op (record op { shards = map (marked k (Done r)) op.shards }); tickets = fin.insert w.tickets k (record t { out = false }); completed = completing w.completed t.op (map (marked k (Done r)) op.shards) })
+      → IsFree f (record w {
+        blobs = blobs;
+        ops = fin.insert w.ops t.op (record op { shards = map (marked k (Done r)) op.shards });
+        tickets = fin.insert w.tickets k (record t { out = false });
+        completed = completing w.completed t.op (map (marked k (Done r)) op.shards);
+      })
   free_done blobs back =
       framed f w (record new { blobs = blobs }) l
       (came_put f w k t (record t { out = false }) out.there (follows_same f w t (record t { out = false }) refl refl (λ e. absurd (true≢false (sym e))) (λ name h. h) refl refl refl refl))

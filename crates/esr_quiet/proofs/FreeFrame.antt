@@ -148,7 +148,8 @@ module _ (f : Formats) (w v : World) (l : IsFree f w)
 
   pending_on : (o : ℕ) (op : Op) (s : ShardWork) → fin.get v.ops o ≡ Some op → Has op.shards s → s.state ≡ Pending → Present f v.blobs (ShardSnap s.ref.id s.number op.uuid) → ⊥
   pending_on o op s there m state p = elim (ops o op s there m (subst Waits (sym state) tt)) [
-    | inl h ↦ l.free.pending h.number h.old h.z h.there h.z_there (h.pending state) (subst (λ name. Present f w.blobs name) (λ j. ShardSnap (sym h.index j) (sym h.shard j) (sym h.uuid j)) (was (ShardSnap s.ref.id s.number op.uuid) (λ id test. test) p))
+    | inl h ↦
+        l.free.pending h.number h.old h.z h.there h.z_there (h.pending state) (subst (λ name. Present f w.blobs name) (λ j. ShardSnap (sym h.index j) (sym h.shard j) (sym h.uuid j)) (was (ShardSnap s.ref.id s.number op.uuid) (λ id test. test) p))
     | inr h ↦ h.absent (was (ShardSnap s.ref.id s.number op.uuid) (λ id test. test) p)
   ]
 

@@ -67,7 +67,15 @@ tests_none f blobs caller none empty =
 pub follows_same : (f : Formats) (w : World) (t v : Ticket) → v.work ≡ t.work → v.base ≡ t.base → (v.out ≡ true → t.out ≡ true) → ((name : BlobName) → Has t.noted name → Has v.noted name)
     → v.uuid ≡ t.uuid → v.first ≡ t.first → v.drawn ≡ t.drawn → v.raised ≡ t.raised → Follows f w t v
 follows_same f w t v work base out noted uuid first drawn raised =
-    record { work = λ index number e. sym work ∙ e; plans = λ uuids s e. inl (record { work = sym work ∙ e; drew = λ id h. drew_same v t id (sym first) (sym drawn) h }); base = base; out = out; noted = noted; commits = λ name h. inl (commits_same t v work uuid first drawn name h); raised = λ n e. inl (sym raised ∙ e) }
+    record {
+      work = λ index number e. sym work ∙ e;
+      plans = λ uuids s e. inl (record { work = sym work ∙ e; drew = λ id h. drew_same v t id (sym first) (sym drawn) h });
+      base = base;
+      out = out;
+      noted = noted;
+      commits = λ name h. inl (commits_same t v work uuid first drawn name h);
+      raised = λ n e. inl (sym raised ∙ e);
+    }
 
 pub follows_itself : (f : Formats) (w : World) (t : Ticket) → Follows f w t t
 follows_itself f w t = follows_same f w t t refl refl (λ e. e) (λ name h. h) refl refl refl refl

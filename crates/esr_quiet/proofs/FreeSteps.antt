@@ -46,7 +46,8 @@ use Rattle.esr_quiet.proofs.Alone.{IsAlone}
 latest_back : (f : Formats) (blobs now : Blobs) (bytes : Bytes) → now ≡ fin.insert blobs (f.names.text Latest) bytes → ReadsBack f.names Latest → Back f now blobs
 latest_back f blobs now bytes is named = record {
   were = at_back f blobs now (inr (bytes, is, named));
-  tests = λ id name b test h. (ap (λ (x : Blobs). fin.get x (f.names.text name)) is ∙ get_other nat_list_cmp_total texts_same blobs (f.names.text Latest) bytes (f.names.text name) (λ same. h.1.1 (text_one f name Latest h.1.0 named same)) ∙ h.0, h.1);
+  tests = λ id name b test h.
+      (ap (λ (x : Blobs). fin.get x (f.names.text name)) is ∙ get_other nat_list_cmp_total texts_same blobs (f.names.text Latest) bytes (f.names.text name) (λ same. h.1.1 (text_one f name Latest h.1.0 named same)) ∙ h.0, h.1);
 }
 
 -- a shard that waits after a failure is as it was
@@ -75,7 +76,8 @@ module _ (f : Formats) (w : World) (shelf : List Shelved) (law : Law f w shelf) 
   opens : (new : Op) → new.uuid ≡ w.next_id → ((s : ShardWork) → Has new.shards s → s.state ≡ Pending) → (completed : List ℕ) (next_id : ℕ) (blobs : Blobs) → Back f blobs w.blobs
       → IsFree f (record w { ops = fin.insert w.ops w.next_op new; next_op = suc w.next_op; completed = completed; next_id = next_id; blobs = blobs; caller = no_caller })
   opens new uuid_is pending completed next_id blobs back =
-      framed f w (record w { ops = fin.insert w.ops w.next_op new; next_op = suc w.next_op; completed = completed; next_id = next_id; blobs = blobs; caller = no_caller }) l (came_all f w) (own_all f w l) ops live back.were (tests_none f blobs no_caller refl refl)
+      framed f w (record w { ops = fin.insert w.ops w.next_op new; next_op = suc w.next_op; completed = completed; next_id = next_id; blobs = blobs; caller = no_caller }) l
+      (came_all f w) (own_all f w l) ops live back.were (tests_none f blobs no_caller refl refl)
     where
       new_shard : (s : ShardWork) → IsNewShard f w new s
       new_shard s =
@@ -99,7 +101,8 @@ module _ (f : Formats) (w : World) (shelf : List Shelved) (law : Law f w shelf) 
       ]
 
   asks : (name : Bytes) (indices : List AskedIndex) (time : ℕ) (blobs : Blobs) → Back f blobs w.blobs → IsFree f (record (asked w (Snapshot name indices time)) { blobs = blobs; caller = no_caller })
-  asks name indices time blobs back = opens (asked_op w name indices time) refl (λ s m. (in_all w indices (suc w.next_id) s m).0) (completing w.completed w.next_op (asked_op w name indices time).shards) (w.next_id + suc (new_names w indices)) blobs back
+  asks name indices time blobs back =
+      opens (asked_op w name indices time) refl (λ s m. (in_all w indices (suc w.next_id) s m).0) (completing w.completed w.next_op (asked_op w name indices time).shards) (w.next_id + suc (new_names w indices)) blobs back
 
   clones : (source name : Bytes) (names : List Bytes) (time : ℕ) (taken : CloneOf) (blobs : Blobs) → Back f blobs w.blobs → IsFree f (record (asked w (Clone source name names time (Some taken))) { blobs = blobs; caller = no_caller })
   clones source name names time taken blobs back = opens (cloned_op w name time taken) refl (λ s m. copied_pending (places taken.indices) s m) (completing w.completed w.next_op (cloned_op w name time taken).shards) (suc w.next_id) blobs back
@@ -107,11 +110,17 @@ module _ (f : Formats) (w : World) (shelf : List Shelved) (law : Law f w shelf) 
   -- a new ticket of no shard
   gives_plain : (v : Ticket) → IsNewTicket f w v → v.drawn ≡ 0 → (blobs : Blobs) → Back f blobs w.blobs → IsFree f (record w { tickets = fin.insert w.tickets w.next_ticket v; next_ticket = suc w.next_ticket; blobs = blobs })
   gives_plain v new undrawn blobs back =
-      framed f w (record w { tickets = fin.insert w.tickets w.next_ticket v; next_ticket = suc w.next_ticket; blobs = blobs }) l (came_new f w w.next_ticket v new) (own_new w.tickets (own_all f w l) w.next_ticket v new.unraised undrawn) (waited f w shelf law l) (λ i n g h. inl h) back.were (tests_was f w l blobs back)
+      framed f w (record w { tickets = fin.insert w.tickets w.next_ticket v; next_ticket = suc w.next_ticket; blobs = blobs }) l (came_new f w w.next_ticket v new)
+      (own_new w.tickets (own_all f w l) w.next_ticket v new.unraised undrawn) (waited f w shelf law l) (λ i n g h. inl h) back.were (tests_was f w l blobs back)
 
   -- a pending shard is given, on the largest live generation
   gives_shard : (o : ℕ) (op : Op) (s : ShardWork) (base : Option ℕ) → fin.get w.ops o ≡ Some op → Has op.shards s → s.state ≡ Pending → Largest w s.ref.id s.number base → (blobs : Blobs) → Back f blobs w.blobs
-      → IsFree f (record w { ops = fin.insert w.ops o (record op { shards = map (given w.next_ticket s.ref.id s.number) op.shards }); tickets = fin.insert w.tickets w.next_ticket (shard_ticket w o op s base); next_ticket = suc w.next_ticket; blobs = blobs })
+      → IsFree f (record w {
+        ops = fin.insert w.ops o (record op { shards = map (given w.next_ticket s.ref.id s.number) op.shards });
+        tickets = fin.insert w.tickets w.next_ticket (shard_ticket w o op s base);
+        next_ticket = suc w.next_ticket;
+        blobs = blobs;
+      })
   gives_shard o op s base there m pending largest blobs back =
       framed f w (record w { ops = fin.insert w.ops o (record op { shards = map g op.shards }); tickets = fin.insert w.tickets w.next_ticket (shard_ticket w o op s base); next_ticket = suc w.next_ticket; blobs = blobs }) l
       (came_new f w w.next_ticket (shard_ticket w o op s base) new) (own_new w.tickets (own_all f w l) w.next_ticket (shard_ticket w o op s base) refl refl)
@@ -226,7 +235,8 @@ module _ (f : Formats) (w : World) (shelf : List Shelved) (law : Law f w shelf) 
   ends_shard : (k : ℕ) (state : ReadState) (q : Reader) (r : Option Restoring) (blobs : Blobs) → Back f blobs w.blobs → IsFree f (record (shard_over w k state q r) { blobs = blobs })
   ends_shard k state q None blobs back = kept f w shelf law l blobs back
   ends_shard k state q (Some r) blobs back =
-      beside f w shelf law l (put_restore w.restores q.op (record r { shards = map (restoring.ended k state) r.shards })) (fin.insert w.readers k (record q { out = false })) w.next_op w.next_ticket blobs back.were w.caller (tests_was f w l blobs back)
+      beside f w shelf law l (put_restore w.restores q.op (record r { shards = map (restoring.ended k state) r.shards }))
+      (fin.insert w.readers k (record q { out = false })) w.next_op w.next_ticket blobs back.were w.caller (tests_was f w l blobs back)
 
   ends_read : (k : ℕ) (state : ReadState) (q : Option Reader) (blobs : Blobs) → Back f blobs w.blobs → IsFree f (record (read_over w k state q) { blobs = blobs })
   ends_read k state None blobs back = kept f w shelf law l blobs back
@@ -237,7 +247,8 @@ module _ (f : Formats) (w : World) (shelf : List Shelved) (law : Law f w shelf) 
   -- no blob has the id that it draws
   draws_test : MayDrawTest w → (blobs : Blobs) → Back f blobs w.blobs → IsFree f (record w { next_id = suc w.next_id; blobs = blobs; caller = record w.caller { drawn = Some w.next_id } })
   draws_test idle blobs back =
-      framed f w (record w { next_id = suc w.next_id; blobs = blobs; caller = record w.caller { drawn = Some w.next_id } }) l (came_all f w) (own_all f w l) (waited f w shelf law l) (λ i n g h. inl h) back.were (new, (tests_was f w l blobs back).1, λ name b h. let t = l.wrote_tests name b h in absurd (none-some t.0 (sym idle.undrawn ∙ t.2)))
+      framed f w (record w { next_id = suc w.next_id; blobs = blobs; caller = record w.caller { drawn = Some w.next_id } }) l (came_all f w) (own_all f w l) (waited f w shelf law l)
+      (λ i n g h. inl h) back.were (new, (tests_was f w l blobs back).1, λ name b h. let t = l.wrote_tests name b h in absurd (none-some t.0 (sym idle.undrawn ∙ t.2)))
     where
       new : AreOwnTests f blobs (record w.caller { drawn = Some w.next_id })
       new id name drawn test p =
@@ -248,7 +259,8 @@ module _ (f : Formats) (w : World) (shelf : List Shelved) (law : Law f w shelf) 
   commits_test : (name : BlobName) (bytes : Bytes) → IsOwnTest f w name → (blobs : Blobs) → Adds f w name bytes blobs
       → IsFree f (record w { doomed = name ∷ w.doomed; blobs = blobs; caller = record w.caller { committed = name ∷ w.caller.committed; wrote = (name, bytes) ∷ w.caller.wrote } })
   commits_test name bytes own blobs adds =
-      framed_aside f w (record w { doomed = name ∷ w.doomed; blobs = blobs; caller = record w.caller { committed = name ∷ w.caller.committed; wrote = (name, bytes) ∷ w.caller.wrote } }) l (came_all f w) (own_all f w l) (waited f w shelf law l) (λ i n g h. inl h)
+      framed_aside f w (record w { doomed = name ∷ w.doomed; blobs = blobs; caller = record w.caller { committed = name ∷ w.caller.committed; wrote = (name, bytes) ∷ w.caller.wrote } }) l
+      (came_all f w) (own_all f w l) (waited f w shelf law l) (λ i n g h. inl h)
       (λ m b no_test h. elim (was m b h) [ inl e ↦ absurd (no_test own.id (subst (IsTestOf own.id) (sym e) own.test)) | inr old ↦ old ]) (
         λ id m drawn test p. elim (was m p.0 p.1) [ inl e ↦ inl (sym e) | inr old ↦ inr (l.free.tests id m drawn test (p.0, old)) ],
         λ m b h left. elim h [
@@ -298,7 +310,8 @@ module _ (f : Formats) (size : ℕ) (w : World) (shelf : List Shelved) (law : La
 
   asks_restore : (name place : Bytes) (reply : Reply) (image : Option Image) → RestoreAllows f w name reply image → SameBlobs w image → IsFree f (heard_after f w (moment 0 (AskStep (Restore name place)) reply image))
   asks_restore name place reply image (OpeningRestore o uuid indices im acc) same =
-      beside f w shelf law l (put_restore w.restores w.next_op (restore_of uuid place indices)) w.readers (suc w.next_op) w.next_ticket (blobs_in im w.blobs) (at_same f w im same).were no_caller (tests_none f (blobs_in im w.blobs) no_caller refl refl)
+      beside f w shelf law l (put_restore w.restores w.next_op (restore_of uuid place indices)) w.readers (suc w.next_op) w.next_ticket
+      (blobs_in im w.blobs) (at_same f w im same).were no_caller (tests_none f (blobs_in im w.blobs) no_caller refl refl)
   asks_restore name place reply image (NotListed im none) same = anew im same no_caller refl refl
   asks_restore name place reply image (NamedByDelete uuid d im listed named) same = anew im same no_caller refl refl
   asks_restore name place reply image (FullOfRestores uuid im listed spared full) same = anew im same no_caller refl refl

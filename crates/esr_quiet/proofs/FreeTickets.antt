@@ -1,5 +1,5 @@
 -- What is read stays, and a ticket goes on: what is still to be written stays free.
-use Rattle.std.proofs.Common.{◌≡◌, ◌≢◌, ◌⊎◌, ℕ, suc, ◌+◌, ◌<◌, ◌≤◌, List, true, false, true≢false, Option, Some, None, refl, sym, subst, inl, inr, arith}
+use Rattle.std.proofs.Common.{◌≡◌, ◌≢◌, ◌⊎◌, ℕ, suc, ◌+◌, ◌<◌, List, true, false, true≢false, Option, Some, None, refl, sym, subst, inl, inr, arith, le_refl}
 use Rattle.std.specs.Ordering.{nat_cmp}
 use Rattle.std.specs.FinMap.{FinMap}
 use Rattle.std.specs.FinMap as fin
@@ -19,9 +19,6 @@ use Rattle.esr_core.specs.Allowed.{Raises}
 use Rattle.esr_quiet.proofs.FreeFrame.{IsFree, own_all, Tests, Follows, Waited, IsNewShard, framed}
 use Rattle.esr_quiet.proofs.FreeNames.{drew_same, commits_same, drawn_new}
 use Rattle.esr_quiet.proofs.FreeParts.{Were, Back, tests_was, follows_same, came_all, came_put, own_put, own_pending, own_drawn, waited_all}
-
-not_less : (n : ℕ) → n ≤ n
-not_less n = omega arith
 
 module _ (f : Formats) (w : World) (shelf : List Shelved) (law : Law f w shelf) (l : IsFree f w) where
   pub waited : (o : ℕ) (op : Op) (s : ShardWork) → fin.get w.ops o ≡ Some op → Has op.shards s → Waits s.state → Waited w op s ⊎ IsNewShard f w op s
@@ -51,7 +48,8 @@ module _ (f : Formats) (w : World) (shelf : List Shelved) (law : Law f w shelf) 
   put k t v there like same first drawn blobs back =
       framed f w (record w { tickets = fin.insert w.tickets k v; blobs = blobs }) l (came_put f w k t v there like) (own_put w.tickets (own_all f w l) k t v there same first drawn) waited (λ i n g h. inl h) back.were (tests_was f w l blobs back)
 
-  pub changed : (k : ℕ) (t : Ticket) → fin.get w.tickets k ≡ Some t → (g : Ticket → Ticket) → Follows f w t (g t) → (g t).raised ≡ t.raised → (g t).first ≡ t.first → (g t).drawn ≡ t.drawn → (blobs : Blobs) → Back f blobs w.blobs → IsFree f (record (change w k g) { blobs = blobs })
+  pub changed : (k : ℕ) (t : Ticket) → fin.get w.tickets k ≡ Some t → (g : Ticket → Ticket) → Follows f w t (g t) → (g t).raised ≡ t.raised → (g t).first ≡ t.first → (g t).drawn ≡ t.drawn → (blobs : Blobs)
+      → Back f blobs w.blobs → IsFree f (record (change w k g) { blobs = blobs })
   changed k t there g like same first drawn blobs back = subst (λ o. IsFree f (record (with_given w k g o) { blobs = blobs })) (sym there) (put k t (g t) there like same first drawn blobs back)
 
   pub ended : (t : Ticket) → Follows f w t (record t { out = false })
@@ -84,7 +82,8 @@ module _ (f : Formats) (w : World) (shelf : List Shelved) (law : Law f w shelf) 
       → IsFree f (record (change w k (λ (x : Ticket). record x { first = w.next_id; drawn = n })) { next_id = w.next_id + n; blobs = blobs })
   draws k n t there shard blobs back =
       subst (λ o. IsFree f (record (with_given w k (λ (x : Ticket). record x { first = w.next_id; drawn = n }) o) { next_id = w.next_id + n; blobs = blobs })) (sym there)
-      (framed f w (record w { tickets = fin.insert w.tickets k drew; next_id = w.next_id + n; blobs = blobs }) l (came_put f w k t drew there like) (own_drawn w.tickets (own_all f w l) k t drew w.next_id there refl (not_less w.next_id) (λ j u e. (law.ids.tickets j u e).drawn)) waited (λ i m g h. inl h) back.were (tests_was f w l blobs back))
+      (framed f w (record w { tickets = fin.insert w.tickets k drew; next_id = w.next_id + n; blobs = blobs }) l (came_put f w k t drew there like)
+      (own_drawn w.tickets (own_all f w l) k t drew w.next_id there refl (le_refl w.next_id) (λ j u e. (law.ids.tickets j u e).drawn)) waited (λ i m g h. inl h) back.were (tests_was f w l blobs back))
     where
       drew : Ticket
       drew = record t { first = w.next_id; drawn = n }

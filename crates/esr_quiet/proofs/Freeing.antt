@@ -50,14 +50,32 @@ no_more (m ∷ log) = ap (λ xs. m ∷ xs) (no_more log)
 opened_free : (f : Formats) (image : Image) (w : World) → Opened f image w → IsFree f w
 opened_free f image w (OpenedEmpty e) =
     record {
-      free = record { shards = λ k t name there. absurd (nothing k t there); pending = λ o op s there. absurd (nothing o op there); roots = λ k n t there. absurd (nothing k t there); plans = λ k t uuids s name bytes there. absurd (nothing k t there); own_root = λ j k n t u there. absurd (nothing j t there); unlisted = λ o op s g held list there. absurd (nothing o op there); tests = (tests_none f w.blobs w.caller refl refl).0; wrote = (tests_none f w.blobs w.caller refl refl).1 };
+      free = record {
+        shards = λ k t name there. absurd (nothing k t there);
+        pending = λ o op s there. absurd (nothing o op there);
+        roots = λ k n t there. absurd (nothing k t there);
+        plans = λ k t uuids s name bytes there. absurd (nothing k t there);
+        own_root = λ j k n t u there. absurd (nothing j t there);
+        unlisted = λ o op s g held list there. absurd (nothing o op there);
+        tests = (tests_none f w.blobs w.caller refl refl).0;
+        wrote = (tests_none f w.blobs w.caller refl refl).1;
+      };
       own_ids = λ j k id t u there. absurd (nothing j t there);
       drawn = λ k t uuids s name bytes there. absurd (nothing k t there);
       wrote_tests = (tests_none f w.blobs w.caller refl refl).2;
     }
 opened_free f image w (OpenedRecord cluster text root there reads is) =
     record {
-      free = record { shards = λ k t name at. absurd (nothing k t at); pending = λ o op s at. absurd (nothing o op at); roots = λ k n t at. absurd (nothing k t at); plans = λ k t uuids s name bytes at. absurd (nothing k t at); own_root = λ j k n t u at. absurd (nothing j t at); unlisted = λ o op s g held list at. absurd (nothing o op at); tests = (tests_none f w.blobs w.caller refl refl).0; wrote = (tests_none f w.blobs w.caller refl refl).1 };
+      free = record {
+        shards = λ k t name at. absurd (nothing k t at);
+        pending = λ o op s at. absurd (nothing o op at);
+        roots = λ k n t at. absurd (nothing k t at);
+        plans = λ k t uuids s name bytes at. absurd (nothing k t at);
+        own_root = λ j k n t u at. absurd (nothing j t at);
+        unlisted = λ o op s g held list at. absurd (nothing o op at);
+        tests = (tests_none f w.blobs w.caller refl refl).0;
+        wrote = (tests_none f w.blobs w.caller refl refl).1;
+      };
       own_ids = λ j k id t u at. absurd (nothing j t at);
       drawn = λ k t uuids s name bytes at. absurd (nothing k t at);
       wrote_tests = (tests_none f w.blobs w.caller refl refl).2;

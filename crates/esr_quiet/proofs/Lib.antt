@@ -37,5 +37,6 @@ pub mod SpareBlobs
 pub mod SpareSteps
 pub mod Untaken
 pub mod Checks
+pub mod Fetches
 pub mod Core
 pub mod Freeing

@@ -15,7 +15,9 @@ use Rattle.esr_core.specs.Laws.ChangeLaws.{change_of}
 use Rattle.esr_desk.specs.Start.{Start, Legal, formats_of, or_no_ticket, ticket_of}
 use Rattle.esr_desk.specs.Grew.{AllOf}
 use Rattle.esr_core.specs.Laws.NumberMaps.{other_in}
-use Rattle.esr_quiet.specs.PrefixLaws.{world_both, legal_rest}
+use Rattle.esr_core.specs.Laws.Histories.{world_parts}
+use Rattle.esr_quiet.specs.PrefixLaws.{legal_rest}
+use Rattle.esr_quiet.proofs.Alone.{IsTake}
 
 abbrev held : World → ℕ → Option Ticket
 held w q = fin.get w.tickets q
@@ -58,10 +60,6 @@ take_leaves f w k (Refused refusal) image q none = refl
 take_leaves f w k reply image q none = refl
 
 -- ---- each step
-
-abbrev IsTake : Step → Type 0
-IsTake TakeStep = Unit {0}
-IsTake step = ⊥
 
 module _ (f : Formats) (w : World) (k : ℕ) (step : Step) (no_take : IsTake step → ⊥) (q : ℕ) (apart : q ≢ k) where
   kept : (new : World) → StepChange f w k step new → held new q ≡ held w q
@@ -110,7 +108,7 @@ module _ (s : Start) where
   f = formats_of s
 
   goes_on : (log more : List Moment) (k : ℕ) → held (world_from f (world_from f s.world log) more) k ≡ held (world_from f s.world log) k → ticket_of s (log ++ more) k ≡ ticket_of s log k
-  goes_on log more k same = ap or_no_ticket (ap (λ (w : World). held w k) (world_both f log more s.world) ∙ same)
+  goes_on log more k same = ap or_no_ticket (ap (λ (w : World). held w k) (world_parts f log more s.world) ∙ same)
 
   pub steps_stay : (log more : List Moment) (who k : ℕ) → Legal s (log ++ more) → AllOf who more → who ≢ 0 → k ≢ who → ticket_of s (log ++ more) k ≡ ticket_of s log k
   steps_stay log more who k legal own ticket apart = goes_on log more k (others_stay f s.part_size more (world_from f s.world log) who k (legal_rest f s.part_size log more s.world legal) own ticket apart)

@@ -7,11 +7,12 @@ use Rattle.esr_core.specs.After.{after}
 use Rattle.esr_core.specs.Allowed.{Allowed}
 use Rattle.esr_core.specs.History.{world_from, IsLegal, AreTold}
 use Rattle.esr_core.specs.Laws.Asides.{blocked_stays}
+use Rattle.esr_core.specs.Laws.Histories.{world_parts}
 use Rattle.esr_desk.specs.Start.{Start, formats_of, world_of}
 use Rattle.esr_quiet.specs.Smooth.{IsSmooth}
 use Rattle.esr_quiet.specs.Prefixes.{Prefixes}
 use Rattle.esr_quiet.specs.OverKept.{OverKept, IsLawful}
-use Rattle.esr_quiet.specs.PrefixLaws.{world_both, legal_rest, legal_front, told_front, quiet_at}
+use Rattle.esr_quiet.specs.PrefixLaws.{legal_rest, legal_front, told_front, quiet_at}
 
 -- ---- its fronts
 
@@ -87,5 +88,5 @@ alive_before s log h front back m is ended a b e = go (world_of s a).deposed ref
     legal = legal_rest (formats_of s) s.part_size a b s.world (subst (IsLegal (formats_of s) s.part_size s.world) e (kept_front s log h front (m ∷ back) is).legal)
 
     go : (d : Bool) → (world_of s a).deposed ≡ d → (world_of s a).deposed ≡ false
-    go true deposed = absurd (last (ap (λ (l : List Moment). (world_of s l).deposed) e ∙ ap (λ (x : World). x.deposed) (world_both (formats_of s) a b s.world) ∙ still_deposed (formats_of s) s.part_size b (world_of s a) deposed legal))
+    go true deposed = absurd (last (ap (λ (l : List Moment). (world_of s l).deposed) e ∙ ap (λ (x : World). x.deposed) (world_parts (formats_of s) a b s.world) ∙ still_deposed (formats_of s) s.part_size b (world_of s a) deposed legal))
     go false alive = alive

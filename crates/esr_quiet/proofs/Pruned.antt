@@ -13,7 +13,8 @@ use Rattle.esr_core.specs.Laws.DeleteRoots.{one_found}
 use Rattle.esr_core.specs.Laws.NewRoots.{root_one_each}
 use Rattle.esr_core.specs.Laws.NumberMaps.{some_none}
 
-module _ (f : Formats) (w : World) (shelf : List Shelved) (l : Law f w shelf) (k : ℕ) (t : Ticket) (uuids : List ℕ) (plan : Option Swap) (there : fin.get w.tickets k ≡ Some t) (out : t.out ≡ true) (unsettled : t.settled ≡ false) (present : t.term ≡ w.term)
+module _ (f : Formats) (w : World) (shelf : List Shelved) (l : Law f w shelf) (k : ℕ) (t : Ticket) (uuids : List ℕ) (plan : Option Swap)
+    (there : fin.get w.tickets k ≡ Some t) (out : t.out ≡ true) (unsettled : t.settled ≡ false) (present : t.term ≡ w.term)
     (work : t.work ≡ Deleting uuids plan) (index number base : ℕ) (to_read : IsToRead t.clean t.root uuids index number base) where
   -- it copied the safe root
   root_is : t.root ≡ w.root

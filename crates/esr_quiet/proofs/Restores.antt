@@ -135,7 +135,7 @@ module _ (f : Formats) (w : World) (serving : IsServing f w) (k : ℕ) (q : Read
       pairs_has (FileStands f (HeldIn f w) q.index q.number) served.snap.files served.contents e served.stand (subst (λ (z : ShardSnapshot). Has z.files e) (sym (snap_one snap r)) listed)
 
   -- what it may read is there
-  is_there : (name : BlobName) (image : Image) → MayRead f q name (Some image) → fin.get w.blobs (f.names.text name) ≡ None → ⊥
+  pub is_there : (name : BlobName) (image : Image) → MayRead f q name (Some image) → fin.get w.blobs (f.names.text name) ≡ None → ⊥
   is_there name image (inl is) none =
       some_none served.snap_reads.bytes (sym served.snap_reads.there.0.0 ∙ ap (λ (n : BlobName). fin.get w.blobs (f.names.text n)) (sym is) ∙ none)
   is_there name image (inr (piece, lists)) none =
@@ -283,7 +283,8 @@ module _ (s : Start) (log : List Moment) (smooth : IsSmooth s log) (lawful : IsL
   shows e front back is who some reading (OfAbsence name) b h = undamaged s log lawful (smooth_alive s log smooth) all_serve e front back is who some reading (OfAbsence name) b tt h
   shows e front back is who some reading (OfUnreadable name reason) b h = undamaged s log lawful (smooth_alive s log smooth) all_serve e front back is who some reading (OfUnreadable name reason) b tt h
   shows e front back is who some reading (OfAhead name id) b h = h
-  shows e front back is who some reading (OfPrint name stated_len stated_digest found_len found_digest) b h = undamaged s log lawful (smooth_alive s log smooth) all_serve e front back is who some reading (OfPrint name stated_len stated_digest found_len found_digest) b tt h
+  shows e front back is who some reading (OfPrint name stated_len stated_digest found_len found_digest) b h =
+      undamaged s log lawful (smooth_alive s log smooth) all_serve e front back is who some reading (OfPrint name stated_len stated_digest found_len found_digest) b tt h
   shows e front back is who some reading (OfDisagreement name other) b h = undamaged s log lawful (smooth_alive s log smooth) all_serve e front back is who some reading (OfDisagreement name other) b tt h
   shows e front back is who some reading OfSource b h = h
   shows e front back is who some reading (OfChange first_len first_digest second_len second_digest) b h = h

@@ -1,8 +1,7 @@
 -- Each snapshot that an index of a root has is listed, and the names of its indices differ, in what reads as a root.
-use Rattle.std.proofs.Common.{◌≡◌, inl, inr, ℕ, Bool, true, List, [], ◌∷◌, map, Some, option_map, Result, Ok, Err, refl, sym, ap, ◌∙◌, subst}
+use Rattle.std.proofs.Common.{◌≡◌, ℕ, true, List, map, Some, option_map, Result, Ok, Err, refl, sym, ap, ◌∙◌, subst}
 use Rattle.std.specs.Result.{result_ok}
-use Rattle.std.specs.List.{list_all, list_any}
-use Rattle.std.proofs.lemmas.Bool.{eqb-true, and_parts, or_cases}
+use Rattle.std.proofs.lemmas.Bool.{eqb-true}
 use Rattle.esr_names.specs.declared.ids.Id.{Id}
 use Rattle.esr_root.specs.Ids.{same_id}
 use Rattle.esr_root.specs.Snaps.{lists}
@@ -14,33 +13,20 @@ use Rattle.esr_root.specs.ReadRoots.{root_is}
 use Rattle.esr_formats.specs.Ids.{number_of}
 use Rattle.esr_formats.specs.Roots.{root_of, root_snap_of, root_index_of, root_kind}
 use Rattle.esr_model.specs.Values.{Bytes, Has, RootSnap, RootIndex, RootData, Kind}
-use Rattle.esr_model.specs.Lists.{Has-map, Has-mapped}
+use Rattle.esr_model.specs.Lists.{Has-map, Has-mapped, all_has, pass_has}
+use Rattle.esr_core.specs.Laws.CleanupReach.{any_was}
 use Rattle.esr_desk.specs.Start.{Start, formats_of}
-use Rattle.esr_quiet.specs.RootNames.{all_has, root_kind_is}
+use Rattle.esr_quiet.specs.RootNames.{root_kind_is}
 
 -- the root lists each snapshot that one of its indices has
 abbrev pub AreListed : RootData → Type 0
 AreListed root = (x : RootIndex) (u : ℕ) → Has root.indices x → Has x.snapshots u → (snap : RootSnap) × Has root.snapshots snap × (snap.uuid ≡ u)
 
--- ---- tests of lists
-
-pass_has : {A : Type 0} (p : A → Bool) (xs : List A) (x : A) → list_all p xs ≡ true → Has xs x → p x ≡ true
-pass_has p [] x all none = absurd none
-pass_has p (y ∷ ys) x all (inl here) = ap p (sym here) ∙ (and_parts (p y) (list_all p ys) all).0
-pass_has p (y ∷ ys) x all (inr later) = pass_has p ys x (and_parts (p y) (list_all p ys) all).1 later
-
-any_has : {A : Type 0} (p : A → Bool) (xs : List A) → list_any p xs ≡ true → (x : A) × Has xs x × (p x ≡ true)
-any_has p [] none = absurd cc
-any_has p (y ∷ ys) some = elim (or_cases (p y) (list_any p ys) some) [
-  | inl here ↦ (y, inl refl, here)
-  | inr later ↦ let found = any_has p ys later in (found.0, inr found.1, found.2)
-]
-
 -- ---- the snapshots of its indices are listed
 
 listed_id : (snaps : List CodeSnap) (u : Id) → lists snaps u ≡ true → (snap : RootSnap) × Has (map root_snap_of snaps) snap × (snap.uuid ≡ u.number)
 listed_id snaps u is =
-    let found = any_has (λ (s : CodeSnap). same_id s.uuid u) snaps is in
+    let found = any_was (λ (s : CodeSnap). same_id s.uuid u) snaps is in
     (root_snap_of found.0, Has-map root_snap_of snaps found.0 found.1, eqb-true found.0.uuid.number u.number found.2)
 
 are_listed : (root : Root) → IsRoot root → AreListed (root_of root)

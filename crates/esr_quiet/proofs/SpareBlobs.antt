@@ -10,10 +10,11 @@ use Rattle.esr_core.specs.World.{World, Op, ShardWork, Pending, Deleting, Ticket
 use Rattle.esr_core.specs.Steps.{IsOut, ShardCommits, MayCommit}
 use Rattle.esr_core.specs.Ids.{Law}
 use Rattle.esr_core.specs.Laws.BlobFrames.{at_was}
+use Rattle.esr_core.specs.Laws.Maps.{Tickets}
 use Rattle.esr_quiet.proofs.CommitNames.{plan_one, as_root, only_one, no_snap}
 use Rattle.esr_quiet.proofs.FreeFrame.{ArePlansDrawn, Own}
 use Rattle.esr_quiet.proofs.FreeNames.{drawn_like}
-use Rattle.esr_quiet.proofs.SpareFrame.{Tickets, IsSpare, Spare, Goes}
+use Rattle.esr_quiet.proofs.SpareFrame.{IsSpare, Spare, Goes}
 
 -- the ticket goes on, and all others are as they were
 abbrev pub IsBeside : Formats → World → ℕ → Ticket → Tickets → Type 0

@@ -1,7 +1,5 @@
 -- Each name that a ticket is still to commit is that of no blob but of one that it tried to commit: what a step has to keep for that.
 use Rattle.std.proofs.Common.{◌≡◌, ◌⊎◌, ℕ, List, true, false, true≢false, Some, None, map, refl, sym, ap, ◌∙◌, subst, inl, inr}
-use Rattle.std.specs.Ordering.{nat_cmp}
-use Rattle.std.specs.FinMap.{FinMap}
 use Rattle.std.specs.FinMap as fin
 use Rattle.std.proofs.lemmas.Option.{none-some}
 use Rattle.esr_core.specs.Laws.NumberMaps.{was_in, left_in}
@@ -12,14 +10,9 @@ use Rattle.esr_core.specs.World.{World, Op, ShardWork, Pending, Deleting, Ticket
 use Rattle.esr_core.specs.Restores.{IsTestOf}
 use Rattle.esr_core.specs.Steps.{ShardCommits}
 use Rattle.esr_model.specs.Lists.{Has-mapped}
+use Rattle.esr_core.specs.Laws.Maps.{Tickets, Ops}
 use Rattle.esr_quiet.proofs.FreeFrame.{ArePlansDrawn, Own, IsSamePlan, IsNewPlan}
 use Rattle.esr_quiet.proofs.FreeNames.{drawn_like, drew_same, index_no_test, commits_same, commits_no_test}
-
-abbrev pub Ops : Type 0
-Ops = FinMap nat_cmp Op
-
-abbrev pub Tickets : Type 0
-Tickets = FinMap nat_cmp Ticket
 
 -- Which names each ticket tried to commit is fixed.
 pub record IsSpare (f : Formats) (tried : ℕ → BlobName → Type 0) (blobs : Blobs) (ops : Ops) (tickets : Tickets) : Type 0 where

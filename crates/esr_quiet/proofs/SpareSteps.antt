@@ -1,5 +1,5 @@
 -- Each step keeps what is to be written spare, whatever calls fail, unless a record swap failed.
-use Rattle.std.proofs.Common.{◌≡◌, ◌⊎◌, ℕ, zero, suc, ◌<◌, ◌≤◌, List, [], Bool, true, false, Option, Some, None, map, refl, sym, ap, ◌∙◌, subst, inl, inr, arith}
+use Rattle.std.proofs.Common.{◌≡◌, ◌⊎◌, ℕ, zero, suc, ◌<◌, List, [], Bool, true, false, Option, Some, None, map, refl, sym, ap, ◌∙◌, subst, inl, inr, arith, le_refl}
 use Rattle.std.specs.Prelude.{if◌then◌else◌}
 use Rattle.std.specs.FinMap as fin
 use Rattle.std.proofs.lemmas.Option.{none-some, same_Some}
@@ -10,7 +10,7 @@ use Rattle.esr_model.specs.Shelf.{Shelved}
 use Rattle.esr_model.specs.Image.{Image, Blobs, At, Present}
 use Rattle.esr_model.specs.Delete.{PrunedShard}
 use Rattle.esr_model.specs.Cleanup.{BlobSize, IsPageOf}
-use Rattle.esr_core.specs.World.{World, Op, Deletion, ShardWork, Pending, Done, GivenUp, Shard, Deleting, Drop, Ticket, Swap, ReadState, Restored, NotRestored, Restoring, Reader, marked}
+use Rattle.esr_core.specs.World.{World, Op, Deletion, ShardWork, Pending, Done, Shard, Deleting, Drop, Ticket, Swap, ReadState, Restored, NotRestored, Restoring, Reader, marked}
 use Rattle.esr_core.specs.Ready.{IsShard}
 use Rattle.esr_core.specs.Restores.{IsTestOf}
 use Rattle.esr_core.specs.Steps.{Removes, with_ticket, noting, listing, given, shard_ticket, final_ticket, plain_ticket}
@@ -24,22 +24,17 @@ use Rattle.esr_core.specs.Allowed as allowed
 use Rattle.esr_core.specs.Allowed.{latest_text, Told, SameBlobs, Adds, Gives, Commits, Raises, Settles, IsOwnTest, MayPlan, SettlesDeletion, RestoreAllows, OpeningRestore, NotListed, NamedByDelete, FullOfRestores, CloneAllows, OpeningClone, CloneUsed, SourceNotListed, SourceDeleted, IndexMissing, FullOfClones, CloneSpent, CloneFault, DeleteAllows, GoingInto, NotNamed, CloneStands, RestoreStands, FullOfOps, DeleteFault, CleanupAllows, OpeningCleanup, OpStands, TicketStands, CleanupFault, ReadAllows, ReadFound, ReadMissing, ReadFault, RestoringShard, ReaderFailing, CheckingAll, CheckFailing, VerifyAllows, DrawingTest, TestSpent, BeginningTest, BeginTestFails, CommittingTest, TestTaken, CommitTestFails, RemovingTests, RemoveTestsFails, VerifyingAll, VerifyFailing, PruneAllows, FetchingShard, ShardMissing, FetchShardFails, Planning, PlanSpent, SettlingDelete, SettleDeleteStale, SettleDeleteFails, RemovingDoomed, RemoveDoomedFails, EndingDelete, FailingDelete, Allows, Allowed}
 use Rattle.esr_core.specs.Laws.BlobFrames.{at_was, at_back}
 use Rattle.esr_core.specs.Laws.DeleteAsks.{aborts}
-use Rattle.esr_core.specs.Laws.ShardStates.{out_pending, failed_is, marked_is, given_is, pending_done}
+use Rattle.esr_core.specs.Laws.ShardStates.{out_pending, failed_is, marked_is, given_is, pending_done, up_pending}
 use Rattle.esr_core.specs.Laws.Asides.{blocked_stays}
 use Rattle.esr_core.specs.Laws.Moments.{moment, settled_plain, delete_settled_plain}
+use Rattle.esr_core.specs.Laws.Maps.{Ops}
 use Rattle.esr_quiet.specs.Untaken.{MayLeave}
 use Rattle.esr_quiet.proofs.FreeNames.{drew_same, commits_same, one_place, snap_alone, drawn_new}
 use Rattle.esr_quiet.specs.QuietWorlds.{was_shards}
 use Rattle.esr_quiet.proofs.FreeParts.{own_put, own_new, own_pending, own_drawn}
 use Rattle.esr_quiet.proofs.PlanNames.{plan_no_shard, new_plan}
-use Rattle.esr_quiet.proofs.SpareFrame.{Ops, IsSpare, Spare, Goes, IsFresh, ArePending, Were, KeepsPending, framed, goes_same, goes_out, came_all, came_put, came_new, pending_all, pending_left, pending_map, pending_new}
+use Rattle.esr_quiet.proofs.SpareFrame.{IsSpare, Spare, Goes, IsFresh, ArePending, Were, KeepsPending, framed, goes_same, goes_out, came_all, came_put, came_new, pending_all, pending_left, pending_map, pending_new}
 use Rattle.esr_quiet.proofs.SpareBlobs.{beside_put, added_spare}
-
-not_less : (n : ℕ) → n ≤ n
-not_less n = omega arith
-
-given_up_pending : GivenUp ≡ Pending → ⊥
-given_up_pending e = cc
 
 shard_same : {i n j k : ℕ} → Shard i n ≡ Shard j k → (i ≡ j) × (n ≡ k)
 shard_same e = (cc, cc)
@@ -89,10 +84,12 @@ module _ (f : Formats) (tried : ℕ → BlobName → Type 0) (w : World) (shelf 
       → IsSpare f tried blobs (change w k g).ops (change w k g).tickets
   changed k t there g goes same first drawn blobs were = subst (λ o. IsSpare f tried blobs (with_given w k g o).ops (with_given w k g o).tickets) (sym there) (put k t (g t) there goes same first drawn blobs were)
 
-  ends : (k : ℕ) (t : Ticket) → fin.get w.tickets k ≡ Some t → (blobs : Blobs) → Were f w blobs → IsSpare f tried blobs (change w k (λ (x : Ticket). record x { out = false })).ops (change w k (λ (x : Ticket). record x { out = false })).tickets
+  ends : (k : ℕ) (t : Ticket) → fin.get w.tickets k ≡ Some t → (blobs : Blobs) → Were f w blobs
+      → IsSpare f tried blobs (change w k (λ (x : Ticket). record x { out = false })).ops (change w k (λ (x : Ticket). record x { out = false })).tickets
   ends k t there blobs were = changed k t there (λ (x : Ticket). record x { out = false }) (goes_out f w t) refl refl refl blobs were
 
-  tries : (k : ℕ) (t : Ticket) → fin.get w.tickets k ≡ Some t → (blobs : Blobs) → Were f w blobs → IsSpare f tried blobs (change w k (λ (x : Ticket). record x { tried_latest = true })).ops (change w k (λ (x : Ticket). record x { tried_latest = true })).tickets
+  tries : (k : ℕ) (t : Ticket) → fin.get w.tickets k ≡ Some t → (blobs : Blobs) → Were f w blobs
+      → IsSpare f tried blobs (change w k (λ (x : Ticket). record x { tried_latest = true })).ops (change w k (λ (x : Ticket). record x { tried_latest = true })).tickets
   tries k t there blobs were = changed k t there (λ (x : Ticket). record x { tried_latest = true }) (goes_same f w t (record t { tried_latest = true }) refl (λ e. e) refl refl refl refl) refl refl refl blobs were
 
   fetches : (k : ℕ) (t : Ticket) → fin.get w.tickets k ≡ Some t → (name : BlobName) (o : Option Bytes) (blobs : Blobs) → Were f w blobs → IsSpare f tried blobs (change w k (fetching name o)).ops (change w k (fetching name o)).tickets
@@ -120,7 +117,7 @@ module _ (f : Formats) (tried : ℕ → BlobName → Type 0) (w : World) (shelf 
   draws k n t there shard blobs were =
       subst (λ o. IsSpare f tried blobs (with_given w k (λ (x : Ticket). record x { first = w.next_id; drawn = n }) o).ops (with_given w k (λ (x : Ticket). record x { first = w.next_id; drawn = n }) o).tickets) (sym there)
       (framed f tried w l blobs w.ops (fin.insert w.tickets k (record t { first = w.next_id; drawn = n })) (came_put f w k t (record t { first = w.next_id; drawn = n }) there like)
-      (own_drawn w.tickets l.own k t (record t { first = w.next_id; drawn = n }) w.next_id there refl (not_less w.next_id) (λ j u e. (law.ids.tickets j u e).drawn)) (pending_all f w) were)
+      (own_drawn w.tickets l.own k t (record t { first = w.next_id; drawn = n }) w.next_id there refl (le_refl w.next_id) (λ j u e. (law.ids.tickets j u e).drawn)) (pending_all f w) were)
     where
       like : Goes f w t (record t { first = w.next_id; drawn = n })
       like =
@@ -132,7 +129,8 @@ module _ (f : Formats) (tried : ℕ → BlobName → Type 0) (w : World) (shelf 
           }
 
   -- what it raises is above all roots
-  raises : (k n : ℕ) (r : Raises f w k n) (blobs : Blobs) → Were f w blobs → IsSpare f tried blobs (change w k (λ (x : Ticket). record x { raised = Some w.pending })).ops (change w k (λ (x : Ticket). record x { raised = Some w.pending })).tickets
+  raises : (k n : ℕ) (r : Raises f w k n) (blobs : Blobs) → Were f w blobs
+      → IsSpare f tried blobs (change w k (λ (x : Ticket). record x { raised = Some w.pending })).ops (change w k (λ (x : Ticket). record x { raised = Some w.pending })).tickets
   raises k n r blobs were =
       subst (λ o. IsSpare f tried blobs (with_given w k (λ (x : Ticket). record x { raised = Some w.pending }) o).ops (with_given w k (λ (x : Ticket). record x { raised = Some w.pending }) o).tickets) (sym r.may.out.there)
       (framed f tried w l blobs w.ops (fin.insert w.tickets k (record r.may.t { raised = Some w.pending })) (came_put f w k r.may.t (record r.may.t { raised = Some w.pending }) r.may.out.there like)
@@ -234,12 +232,13 @@ module _ (f : Formats) (tried : ℕ → BlobName → Type 0) (w : World) (shelf 
   fails_op k t there (Some op) e blobs were = marks k t there op (record op { shards = map (fails k) op.shards; failed = true }) (fails k) e refl refl keeps blobs were
     where
       keeps : KeepsPending (fails k) op
-      keeps z z_there p = elim (failed_is k z) [ inl h ↦ absurd (given_up_pending (ap (λ (x : ShardWork). x.state) (sym h.1) ∙ p)) | inr h ↦ h.2 ]
+      keeps z z_there p = elim (failed_is k z) [ inl h ↦ absurd (up_pending (ap (λ (x : ShardWork). x.state) (sym h.1) ∙ p)) | inr h ↦ h.2 ]
 
   fails_step : (k : ℕ) (t : Ticket) → fin.get w.tickets k ≡ Some t → (blobs : Blobs) → Were f w blobs → IsSpare f tried blobs (failed_of w k (fin.get w.tickets k)).ops (failed_of w k (fin.get w.tickets k)).tickets
   fails_step k t there blobs were = subst (λ x. IsSpare f tried blobs (failed_of w k x).ops (failed_of w k x).tickets) (sym there) (by (is_stale w t t.work))
     where
-      by : (b : Bool) → IsSpare f tried blobs (if b then with_ticket w k (record t { out = false }) else failed_by w k t (fin.get w.ops t.op)).ops (if b then with_ticket w k (record t { out = false }) else failed_by w k t (fin.get w.ops t.op)).tickets
+      by : (b : Bool)
+          → IsSpare f tried blobs (if b then with_ticket w k (record t { out = false }) else failed_by w k t (fin.get w.ops t.op)).ops (if b then with_ticket w k (record t { out = false }) else failed_by w k t (fin.get w.ops t.op)).tickets
       by true = put k t (record t { out = false }) there (goes_out f w t) refl refl refl blobs were
       by false = fails_op k t there (fin.get w.ops t.op) refl blobs were
 
@@ -295,7 +294,7 @@ module _ (f : Formats) (tried : ℕ → BlobName → Type 0) (w : World) (shelf 
     plans blobs were =
         subst (λ o. IsSpare f tried blobs (with_given w k (planned f shards w.next_id) o).ops (with_given w k (planned f shards w.next_id) o).tickets) (sym p.deleting.out.there)
         (framed f tried w l blobs w.ops (fin.insert w.tickets k next) (came_put f w k p.t next p.deleting.out.there like)
-        (own_drawn w.tickets l.own k p.t next w.next_id p.deleting.out.there refl (not_less w.next_id) (λ j u e. (law.ids.tickets j u e).drawn)) (pending_all f w) were)
+        (own_drawn w.tickets l.own k p.t next w.next_id p.deleting.out.there refl (le_refl w.next_id) (λ j u e. (law.ids.tickets j u e).drawn)) (pending_all f w) were)
 
   settles_delete : (k : ℕ) (s : SettlesDeletion f w k) (blobs : Blobs) → Were f w blobs → IsSpare f tried blobs (delete_settled f w k (fin.get w.tickets k)).ops (delete_settled f w k (fin.get w.tickets k)).tickets
   settles_delete k s blobs were =
@@ -312,7 +311,8 @@ module _ (f : Formats) (tried : ℕ → BlobName → Type 0) (w : World) (shelf 
       found None = kept blobs were
       found (Some x) = ended
 
-      by : (b : Bool) → IsSpare f tried blobs (if b then with_ticket w k (record t { out = false }) else delete_failed_by w k t (fin.get w.deletes t.op)).ops (if b then with_ticket w k (record t { out = false }) else delete_failed_by w k t (fin.get w.deletes t.op)).tickets
+      by : (b : Bool) → IsSpare f tried blobs (if b then with_ticket w k (record t { out = false }) else delete_failed_by w k t (fin.get w.deletes t.op)).ops
+          (if b then with_ticket w k (record t { out = false }) else delete_failed_by w k t (fin.get w.deletes t.op)).tickets
       by true = ended
       by false = found (fin.get w.deletes t.op)
 
@@ -452,17 +452,22 @@ module _ (f : Formats) (size : ℕ) (tried : ℕ → BlobName → Type 0) (w : W
   verifies read reply image i told (CommittingTest name bytes im own new adds) = inr (kept f tried w shelf law l (blobs_in im w.blobs) (at_told im (Adds f w name bytes) (test_were f tried w shelf law l name bytes own) i told adds))
   verifies read reply image i told (TestTaken name im own found) = inr (kept f tried w shelf law l (blobs_in im w.blobs) (told_were f tried w shelf law l im (λ blobs. Present f w.blobs name × (blobs ≡ w.blobs)) (λ blobs h. h.1) found))
   verifies read reply image i told (CommitTestFails name bytes im own leaves_it) =
-      inr (tests_left f tried w shelf law l name (fin.get w.blobs (f.names.text name)) (told_blob f im name) (blobs_in im w.blobs) (at_told im (λ blobs. (blobs ≡ w.blobs) ⊎ Adds f w name bytes blobs) (test_or_not name bytes own) i told leaves_it))
+      inr (tests_left f tried w shelf law l name (fin.get w.blobs (f.names.text name)) (told_blob f im name) (blobs_in im w.blobs)
+      (at_told im (λ blobs. (blobs ≡ w.blobs) ⊎ Adds f w name bytes blobs) (test_or_not name bytes own) i told leaves_it))
   verifies read reply image i told (RemovingTests names im may left) =
-      inr (kept f tried w shelf law l (blobs_in im w.blobs) (at_told im (λ blobs. Removes f w.blobs blobs names × ((name : BlobName) → Has names name → fin.get blobs (f.names.text name) ≡ None)) (λ now h. removed_were f tried w shelf law l now names h.0) i told left))
-  verifies read reply image i told (RemoveTestsFails names im may left) = inr (kept f tried w shelf law l (blobs_in im w.blobs) (at_told im (λ blobs. Removes f w.blobs blobs names) (λ now h. removed_were f tried w shelf law l now names h) i told left))
+      inr (kept f tried w shelf law l (blobs_in im w.blobs)
+      (at_told im (λ blobs. Removes f w.blobs blobs names × ((name : BlobName) → Has names name → fin.get blobs (f.names.text name) ≡ None)) (λ now h. removed_were f tried w shelf law l now names h.0) i told left))
+  verifies read reply image i told (RemoveTestsFails names im may left) =
+      inr (kept f tried w shelf law l (blobs_in im w.blobs) (at_told im (λ blobs. Removes f w.blobs blobs names) (λ now h. removed_were f tried w shelf law l now names h) i told left))
   verifies read reply image i told (VerifyingAll im done same) = inr (still f tried w shelf law l im same)
   verifies read reply image i told (VerifyFailing why im begun same) = inr (still f tried w shelf law l im same)
 
   prunes : (k : ℕ) (prune : Prune) (reply : Reply) (image : Option Image) (i : Image) → image ≡ Some i → PruneAllows f w k prune reply image → Next k (PruneStep prune) reply image
   prunes k prune reply image i told (FetchingShard j name im g found) =
-      inr (fetches f tried w shelf law l j g.t g.deleting.out.there name (told_blob f im name) (blobs_in im w.blobs) (told_were f tried w shelf law l im (λ blobs. (bytes : Bytes) × (fin.get w.blobs (f.names.text name) ≡ Some bytes) × (blobs ≡ w.blobs)) (λ blobs h. h.2) found))
-  prunes k prune reply image i told (ShardMissing j name im g found) = inr (kept f tried w shelf law l (blobs_in im w.blobs) (told_were f tried w shelf law l im (λ blobs. (fin.get w.blobs (f.names.text name) ≡ None) × (blobs ≡ w.blobs)) (λ blobs h. h.1) found))
+      inr (fetches f tried w shelf law l j g.t g.deleting.out.there name (told_blob f im name) (blobs_in im w.blobs)
+      (told_were f tried w shelf law l im (λ blobs. (bytes : Bytes) × (fin.get w.blobs (f.names.text name) ≡ Some bytes) × (blobs ≡ w.blobs)) (λ blobs h. h.2) found))
+  prunes k prune reply image i told (ShardMissing j name im g found) =
+      inr (kept f tried w shelf law l (blobs_in im w.blobs) (told_were f tried w shelf law l im (λ blobs. (fin.get w.blobs (f.names.text name) ≡ None) × (blobs ≡ w.blobs)) (λ blobs h. h.1) found))
   prunes k prune reply image i told (FetchShardFails j name im g same) = inr (still f tried w shelf law l im same)
   prunes k prune reply image i told (Planning j shards im p fits back same) = inr (plans f tried w shelf law l j shards im p (blobs_in im w.blobs) (same_were f tried w shelf law l im same))
   prunes k prune reply image i told (PlanSpent j shards im p spent same) = inr (still f tried w shelf law l im same)
@@ -470,8 +475,10 @@ module _ (f : Formats) (size : ℕ) (tried : ℕ → BlobName → Type 0) (w : W
   prunes k prune reply image i told (SettleDeleteStale j im s apart same) = inr (still f tried w shelf law l im same)
   prunes k prune reply image i told (SettleDeleteFails j im s present same) = inl refl
   prunes k prune reply image i told (RemovingDoomed j names im r away) =
-      inr (kept f tried w shelf law l (blobs_in im w.blobs) (at_told im (λ blobs. Removes f w.blobs blobs names × ((name : BlobName) → Has names name → fin.get blobs (f.names.text name) ≡ None)) (λ now h. removed_were f tried w shelf law l now names h.0) i told away))
-  prunes k prune reply image i told (RemoveDoomedFails j names im r away) = inr (kept f tried w shelf law l (blobs_in im w.blobs) (at_told im (λ blobs. Removes f w.blobs blobs names) (λ now h. removed_were f tried w shelf law l now names h) i told away))
+      inr (kept f tried w shelf law l (blobs_in im w.blobs)
+      (at_told im (λ blobs. Removes f w.blobs blobs names × ((name : BlobName) → Has names name → fin.get blobs (f.names.text name) ≡ None)) (λ now h. removed_were f tried w shelf law l now names h.0) i told away))
+  prunes k prune reply image i told (RemoveDoomedFails j names im r away) =
+      inr (kept f tried w shelf law l (blobs_in im w.blobs) (at_told im (λ blobs. Removes f w.blobs blobs names) (λ now h. removed_were f tried w shelf law l now names h) i told away))
   prunes k prune reply image i told (EndingDelete j im e same) = inr (ends f tried w shelf law l j e.t e.deleting.out.there (blobs_in im w.blobs) (same_were f tried w shelf law l im same))
   prunes k prune reply image i told (FailingDelete j why im c same) = inr (fails_delete f tried w shelf law l j c.t c.deleting.out.there (blobs_in im w.blobs) (same_were f tried w shelf law l im same))
 
@@ -488,8 +495,10 @@ module _ (f : Formats) (size : ℕ) (tried : ℕ → BlobName → Type 0) (w : W
       inr (finds f tried w shelf law l k c.t c.out.there name (blobs_in im w.blobs) (told_were f tried w shelf law l im (λ blobs. Present f w.blobs name × (blobs ≡ w.blobs)) (λ blobs h. h.1) found))
   spare_by who step reply image mine i told (allowed.Replacing k im c named puts) = replaces k im c.t c.out.there c.n named puts i told
   spare_by who step reply image mine i told (allowed.Fetching k name im g found) =
-      inr (fetches f tried w shelf law l k g.t g.out.there name (told_blob f im name) (blobs_in im w.blobs) (told_were f tried w shelf law l im (λ blobs. (bytes : Bytes) × (fin.get w.blobs (f.names.text name) ≡ Some bytes) × (blobs ≡ w.blobs)) (λ blobs h. h.2) found))
-  spare_by who step reply image mine i told (allowed.Missing k name im g found) = inr (kept f tried w shelf law l (blobs_in im w.blobs) (told_were f tried w shelf law l im (λ blobs. (fin.get w.blobs (f.names.text name) ≡ None) × (blobs ≡ w.blobs)) (λ blobs h. h.1) found))
+      inr (fetches f tried w shelf law l k g.t g.out.there name (told_blob f im name) (blobs_in im w.blobs)
+      (told_were f tried w shelf law l im (λ blobs. (bytes : Bytes) × (fin.get w.blobs (f.names.text name) ≡ Some bytes) × (blobs ≡ w.blobs)) (λ blobs h. h.2) found))
+  spare_by who step reply image mine i told (allowed.Missing k name im g found) =
+      inr (kept f tried w shelf law l (blobs_in im w.blobs) (told_were f tried w shelf law l im (λ blobs. (fin.get w.blobs (f.names.text name) ≡ None) × (blobs ≡ w.blobs)) (λ blobs h. h.1) found))
   spare_by who step reply image mine i told (allowed.Listing k from page im g shape here) =
       inr (lists f tried w shelf law l k g.t g.out.there page (blobs_in im w.blobs) (told_were f tried w shelf law l im (λ blobs. IsPageOf w.blobs from page × (blobs ≡ w.blobs)) (λ blobs h. h.1) here))
   spare_by who step reply image mine i told (allowed.Raising k n im r same) = inr (raises f tried w shelf law l k n r (blobs_in im w.blobs) (same_were f tried w shelf law l im same))
@@ -517,7 +526,8 @@ module _ (f : Formats) (size : ℕ) (tried : ℕ → BlobName → Type 0) (w : W
   spare_by who step reply image mine i told (allowed.DropStale k im may apart same) = inr (still f tried w shelf law l im same)
   spare_by who step reply image mine i told (allowed.RaiseSpent k im may present spent same) = inr (still f tried w shelf law l im same)
   spare_by who step reply image mine i told (allowed.ElectSpent im spent same) = inr (still f tried w shelf law l im same)
-  spare_by who step reply image mine i told (allowed.Taken k name im c aside found) = inr (kept f tried w shelf law l (blobs_in im w.blobs) (told_were f tried w shelf law l im (λ blobs. Present f w.blobs name × (blobs ≡ w.blobs)) (λ blobs h. h.1) found))
+  spare_by who step reply image mine i told (allowed.Taken k name im c aside found) =
+      inr (kept f tried w shelf law l (blobs_in im w.blobs) (told_were f tried w shelf law l im (λ blobs. Present f w.blobs name × (blobs ≡ w.blobs)) (λ blobs h. h.1) found))
   spare_by who step reply image mine i told (allowed.BeginFails k name im c same) = inr (begins f tried w shelf law l k c.t c.out.there (blobs_in im w.blobs) (same_were f tried w shelf law l im same) (is_latest name))
   spare_by who step reply image mine i told (allowed.BeginLatestFails k im c same) = inr (tries f tried w shelf law l k c.t c.out.there (blobs_in im w.blobs) (same_were f tried w shelf law l im same))
   spare_by who step reply image mine i told (allowed.CommitFails k name im c left) = leaves k name im c left i told (mine name refl tt)

@@ -8,9 +8,10 @@ use Rattle.esr_core.specs.Entry.{Step, TakeStep, Reply, NothingReady, Refusal, R
 use Rattle.esr_core.specs.After.{after}
 use Rattle.esr_core.specs.Allowed as allowed
 use Rattle.esr_core.specs.Allowed.{Allows, Allowed}
+use Rattle.esr_core.specs.Laws.Histories.{world_parts}
 use Rattle.esr_desk.specs.Start.{Start, Legal, formats_of, world_of}
 use Rattle.esr_desk.specs.Last.{IsLast}
-use Rattle.esr_quiet.specs.PrefixLaws.{world_both, legal_rest}
+use Rattle.esr_quiet.specs.PrefixLaws.{legal_rest}
 
 abbrev empty_take : Option Image → Moment
 empty_take image = record { entry = record { who = 0; step = TakeStep; reply = NothingReady }; image = image }
@@ -42,7 +43,7 @@ nothing_ready s log legal last any =
     let m : Moment = empty_take last.image in
     let w : World = world_of s last.front in
     let a : Allowed f s.part_size w m = (legal_rest f s.part_size last.front (m ∷ []) s.world (subst (Legal s) last.is legal)).0 in
-    let now : AnyReady (after f w m) = subst AnyReady (ap (world_of s) last.is ∙ world_both f last.front (m ∷ []) s.world) any in
+    let now : AnyReady (after f w m) = subst AnyReady (ap (world_of s) last.is ∙ world_parts f last.front (m ∷ []) s.world) any in
     elim a.answered [
       | inl alive ↦ says_none f s.part_size w 0 TakeStep NothingReady last.image alive.1 (ready_before f w last.image now)
       | inr dead ↦ refused_nothing dead.refusal dead.refused

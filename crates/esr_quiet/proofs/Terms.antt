@@ -1,5 +1,5 @@
 -- A ticket that isn't of the present term was given before a master was elected; one that is was so in each world since it was given.
-use Rattle.std.proofs.Common.{◌≡◌, ◌⊎◌, ℕ, ◌<◌, ◌≤◌, Bool, true, false, true≢false, List, [], ◌∷◌, ◌++◌, append-nil, append_assoc, Option, Some, refl, sym, ap, ◌∙◌, subst, inl, inr, arith, nat_cmp}
+use Rattle.std.proofs.Common.{◌≡◌, ◌⊎◌, ℕ, ◌<◌, ◌≤◌, Bool, true, false, true≢false, List, [], ◌∷◌, ◌++◌, append-nil, append_assoc, Option, Some, refl, sym, ap, ◌∙◌, subst, inl, inr, arith, nat_cmp, le_refl}
 use Rattle.std.specs.Prelude.{◌≢◌}
 use Rattle.std.proofs.lemmas.Bool.Decides.{eqb_tells}
 use Rattle.std.specs.FinMap.{FinMap}
@@ -8,6 +8,7 @@ use Rattle.std.proofs.lemmas.Bool.{cases_Bool}
 use Rattle.std.proofs.lemmas.Option.{same_Some}
 use Rattle.esr_model.specs.Values.{Has, Formats}
 use Rattle.esr_model.specs.Image.{Image}
+use Rattle.esr_model.specs.Lists.{Has-left}
 use Rattle.esr_core.specs.World.{World, Ticket, Opened, OpenedEmpty, OpenedRecord}
 use Rattle.esr_core.specs.Entry.{Step, ElectStep, Moment}
 use Rattle.esr_core.specs.After.{answered, after}
@@ -21,8 +22,9 @@ use Rattle.esr_desk.specs.Start.{Start, formats_of, world_of, Legal, or_no_ticke
 use Rattle.esr_quiet.specs.Smooth.{HasElection, IsStaleTicket}
 use Rattle.esr_quiet.specs.OverKept.{IsLawful}
 use Rattle.esr_core.specs.Laws.NumberMaps.{nothing}
+use Rattle.esr_core.specs.Laws.Histories.{world_parts}
 use Rattle.esr_quiet.specs.Askers.{AsksOrElects, asker}
-use Rattle.esr_quiet.specs.PrefixLaws.{world_both, legal_front, has_front}
+use Rattle.esr_quiet.specs.PrefixLaws.{legal_front}
 
 -- who 0 elected no master
 abbrev AreUnelected : List Moment → Type 0
@@ -68,7 +70,8 @@ none_opened f image w (OpenedRecord cluster text root is reads of_root) k t ther
 
 unelected_present : (s : Start) (log : List Moment) (image : Image) → Opened (formats_of s) image s.world → Legal s log → AreUnelected log → ArePresentIn s log
 unelected_present s log image opened legal unelected front back is =
-    present_from (formats_of s) s.part_size front s.world (none_opened (formats_of s) image s.world opened) (legal_front (formats_of s) s.part_size front back s.world (subst (Legal s) is legal)) (λ m has. unelected m (subst (λ (l : List Moment). Has l m) (sym is) (has_front front back m has)))
+    present_from (formats_of s) s.part_size front s.world (none_opened (formats_of s) image s.world opened)
+    (legal_front (formats_of s) s.part_size front back s.world (subst (Legal s) is legal)) (λ m has. unelected m (subst (λ (l : List Moment). Has l m) (sym is) (Has-left front back m has)))
 
 -- ---- a ticket that isn't of the present term
 
@@ -115,15 +118,12 @@ term_change f w who step up h = omega arith
 term_after : (f : Formats) (w : World) (m : Moment) → w.term ≤ (after f w m).term
 term_after f w m = term_change f w m.entry.who m.entry.step (answered f w m.entry.who m.entry.step m.entry.reply m.image) (change_of f w m.entry.who m.entry.step m.entry.reply m.image)
 
-same_up : (n : ℕ) → n ≤ n
-same_up n = omega arith
-
 up_twice : (a b c : ℕ) → a ≤ b → b ≤ c → a ≤ c
 up_twice a b c p q = omega (arith, p, q)
 
 -- terms rise
 terms_rise : (f : Formats) (log : List Moment) (w : World) → w.term ≤ (world_from f w log).term
-terms_rise f [] w = same_up w.term
+terms_rise f [] w = le_refl w.term
 terms_rise f (m ∷ log) w = up_twice w.term (after f w m).term (world_from f (after f w m) log).term (term_after f w m) (terms_rise f log (after f w m))
 
 below_apart : (a b : ℕ) → a < b → a ≢ b
@@ -141,7 +141,7 @@ module _ (s : Start) (log : List Moment) (lawful : IsLawful s log) where
       let w : World = world_of s done in
       let law = lawful.lawful done (m ∷ rest) is in
       let (u, now, unit) = (step_frame f w m).stay k t (below_apart k w.next_ticket (law.1.lawful.sound.fresh k t there)) there in
-      let (v, end, same) = term_stays (done ++ m ∷ []) rest (is ∙ sym (append_assoc done (m ∷ []) rest)) k u (ap (λ (x : World). fin.get x.tickets k) (world_both f done (m ∷ []) s.world) ∙ now) in
+      let (v, end, same) = term_stays (done ++ m ∷ []) rest (is ∙ sym (append_assoc done (m ∷ []) rest)) k u (ap (λ (x : World). fin.get x.tickets k) (world_parts f done (m ∷ []) s.world) ∙ now) in
       (v, end, same ∙ unit.term)
 
   -- one that is of the present term at the end was so in each world that has it
@@ -152,5 +152,5 @@ module _ (s : Start) (log : List Moment) (lawful : IsLawful s log) where
       let (u, at, same) = term_stays front back is k t there in
       let kept : v.term ≡ t.term = ap (λ (x : Ticket). x.term) (same_Some v u (sym end ∙ at)) ∙ same in
       let rises : (world_of s front).term ≤ (world_of s log).term =
-      subst (λ (x : World). (world_of s front).term ≤ x.term) (sym (ap (world_of s) is ∙ world_both (formats_of s) front back s.world)) (terms_rise (formats_of s) back (world_of s front)) in
+      subst (λ (x : World). (world_of s front).term ≤ x.term) (sym (ap (world_of s) is ∙ world_parts (formats_of s) front back s.world)) (terms_rise (formats_of s) back (world_of s front)) in
       between t.term v.term (world_of s front).term (world_of s log).term kept present (law.1.lawful.sound.rooted.tickets k t there).term rises

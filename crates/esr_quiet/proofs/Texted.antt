@@ -23,7 +23,8 @@ use Rattle.esr_quiet.specs.Free.{Free}
 use Rattle.esr_quiet.specs.Smooth.{IsSmooth}
 use Rattle.esr_quiet.specs.Prefixes.{Prefixes}
 use Rattle.esr_core.specs.Laws.NumberMaps.{some_none}
-use Rattle.esr_quiet.specs.PrefixLaws.{world_both, has_at, legal_at}
+use Rattle.esr_core.specs.Laws.Histories.{world_parts}
+use Rattle.esr_quiet.specs.PrefixLaws.{has_at, legal_at}
 use Rattle.esr_quiet.proofs.Prefixes.{told_at}
 use Rattle.esr_quiet.specs.CallerSteps.{caller_one}
 
@@ -220,7 +221,7 @@ module _ (s : Start) (log : List Moment) (smooth : IsSmooth s log) (prefixes : P
             (step_texted (formats_of s) s.part_size (world_of s front) (prefixes.free front (m ∷ back) is) h m.entry.who m.entry.step m.entry.reply m.image told.0 told.1 adds alive.1)
         | inr dead ↦
             subst IsTexted
-            (sym (ap (λ (w : World). w.caller) (world_both (formats_of s) front (m ∷ []) s.world) ∙ ap (λ (w : World). w.caller) (blocked_stays (formats_of s) (world_of s front) m dead)))
+            (sym (ap (λ (w : World). w.caller) (world_parts (formats_of s) front (m ∷ []) s.world) ∙ ap (λ (w : World). w.caller) (blocked_stays (formats_of s) (world_of s front) m dead)))
             h
       ]
 

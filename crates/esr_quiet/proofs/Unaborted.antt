@@ -1,6 +1,5 @@
 -- Where nobody asks while a ticket is out no delete aborts the op of one, so that no step is blocked.
-use Rattle.std.proofs.Common.{◌≡◌, ◌≢◌, ℕ, true, false, true≢false, List, [], ◌∷◌, ◌++◌, append-nil, append_assoc, map, Option, Some, None, refl, sym, ap, ◌∙◌, subst, inl, inr, nat_cmp}
-use Rattle.std.specs.FinMap.{FinMap}
+use Rattle.std.proofs.Common.{◌≡◌, ◌≢◌, ℕ, true, false, true≢false, List, [], ◌∷◌, ◌++◌, append-nil, append_assoc, map, Option, Some, None, refl, sym, ap, ◌∙◌, subst, inl, inr}
 use Rattle.std.specs.FinMap as fin
 use Rattle.std.proofs.lemmas.Option.{same_Some}
 use Rattle.esr_model.specs.Values.{Formats}
@@ -19,13 +18,10 @@ use Rattle.esr_quiet.specs.Smooth.{IsSmooth}
 use Rattle.esr_quiet.specs.Prefixes.{Prefixes}
 use Rattle.esr_quiet.specs.Askers.{AsksOrElects, asker}
 use Rattle.esr_core.specs.Laws.NumberMaps.{some_none, nothing, same_in, was_in, left_in}
-use Rattle.esr_quiet.specs.PrefixLaws.{world_both, quiet_at, legal_at}
-
-abbrev Ops : Type 0
-Ops = FinMap nat_cmp Op
-
-abbrev Tickets : Type 0
-Tickets = FinMap nat_cmp Ticket
+use Rattle.esr_core.specs.Laws.Maps.{Tickets, Ops}
+use Rattle.esr_core.specs.Laws.Histories.{world_parts}
+use Rattle.esr_quiet.specs.PrefixLaws.{quiet_at, legal_at}
+use Rattle.esr_quiet.proofs.Alone.{IsTake}
 
 -- no ticket that is out is of an op that was aborted, unless it drops that
 abbrev AreUnaborted : Ops → Tickets → Type 0
@@ -95,10 +91,6 @@ module _ (was now : Ops) (on : GoOn was now) (tickets : Tickets) (h : AreUnabort
   ]
 
 -- ---- each step
-
-abbrev IsTake : Step → Type 0
-IsTake TakeStep = Unit {0}
-IsTake step = ⊥
 
 module _ (f : Formats) (w : World) (h : AreUnabortedIn w) where
   anew : (now : Ops) → SameOps w.ops now → GoOn w.ops now
@@ -200,7 +192,7 @@ module _ (s : Start) (log : List Moment) (smooth : IsSmooth s log) (prefixes : P
       let law = prefixes.lawful front (m ∷ back) is in
       let next : AreUnabortedIn (after f w m) =
       by_step f w h law.1.lawful.queue.apart m.entry.who m.entry.step m.entry.reply m.image (λ k o unit gave. (take_gave f s.part_size w m k o unit a gave).gives) (none_asks front back m is h) in
-      subst AreUnabortedIn (sym (world_both f front (m ∷ []) s.world)) next
+      subst AreUnabortedIn (sym (world_parts f front (m ∷ []) s.world)) next
 
   along : (done rest back : List Moment) → log ≡ done ++ (rest ++ back) → UnabortedAt done → UnabortedAt (done ++ rest)
   along done [] back is h = subst UnabortedAt (sym (append-nil done)) h

@@ -5,6 +5,7 @@ use Rattle.esr_model.specs.Names.{BlobName}
 use Rattle.esr_model.specs.Values.{Bytes, Has, Formats}
 use Rattle.esr_model.specs.Kept.{first_id}
 use Rattle.esr_model.specs.Image.{Image}
+use Rattle.esr_model.specs.Lists.{Has-left}
 use Rattle.esr_core.specs.World.{World, ReadState, Restored, NotRestored, Restoring, Reader, Opened, OpenedEmpty, OpenedRecord}
 use Rattle.esr_core.specs.Entry.{Restore, GivenRestore, Read, ReadBlob, RestoredShard, CheckedAll, DrawTest, CommitTest, ReadFails, Step, AskStep, TakeStep, ReadStep, DepotFault, Reply, Gave, DrawnFrom, WasDone, WasFetched, Refused, Moment}
 use Rattle.esr_core.specs.After.{taken_restore, told_blob, read_told, read_over, read_step, read_by, test_left, faulted, answered, after}
@@ -19,7 +20,7 @@ use Rattle.esr_quiet.specs.Smooth.{IsSmooth, NoneAsked, NoneUnrestored}
 use Rattle.esr_quiet.specs.Prefixes.{Prefixes}
 use Rattle.esr_quiet.specs.Askers.{AsksOrElects, made_zero}
 use Rattle.esr_core.specs.Laws.NumberMaps.{nothing}
-use Rattle.esr_quiet.specs.PrefixLaws.{legal_front, place_of, has_front, quiet_at, legal_at}
+use Rattle.esr_quiet.specs.PrefixLaws.{legal_front, place_of, quiet_at, legal_at}
 use Rattle.esr_quiet.proofs.Restores.{reading_at}
 
 -- no restore is open, and none has a ticket
@@ -107,9 +108,10 @@ room_of w h = let below : w.next_id < first_id (suc w.term) = h.below in omega (
 module _ (s : Start) (log : List Moment) (smooth : IsSmooth s log) (prefixes : Prefixes s log) (asks : NoneAsked log) where
   none_at : (front back : List Moment) → log ≡ front ++ back → HasNone (world_of s front)
   none_at front back is =
-      none_history (formats_of s) s.part_size front s.world (none_opened (formats_of s) smooth.image s.world smooth.opened) (legal_front (formats_of s) s.part_size front back s.world (subst (IsLegal (formats_of s) s.part_size s.world) is smooth.legal))
+      none_history (formats_of s) s.part_size front s.world (none_opened (formats_of s) smooth.image s.world smooth.opened)
+      (legal_front (formats_of s) s.part_size front back s.world (subst (IsLegal (formats_of s) s.part_size s.world) is smooth.legal))
       (λ a b e. room_of (world_of s a) (prefixes.lawful a (b ++ back) (is ∙ ap (λ (l : List Moment). l ++ back) e ∙ append_assoc a b back)).1.in_term)
-      (λ m name place h. asks m name place (subst (λ (l : List Moment). Has l m) (sym is) (has_front front back m h)))
+      (λ m name place h. asks m name place (subst (λ (l : List Moment). Has l m) (sym is) (Has-left front back m h)))
 
   pub none_unasked : NoneUnrestored log
   none_unasked m why has some step reply =

@@ -17,9 +17,10 @@ use Rattle.esr_quiet.specs.OverKept.{IsLawful}
 use Rattle.esr_quiet.specs.Untaken.{MayLeave, WasTried, NoneTaken}
 use Rattle.esr_quiet.proofs.FreeCommits.{own_metadata}
 use Rattle.esr_core.specs.Laws.NumberMaps.{some_none}
+use Rattle.esr_core.specs.Laws.Histories.{world_parts}
 use Rattle.esr_quiet.proofs.Numbers.{Numbered, numbered_from}
 use Rattle.esr_quiet.proofs.OverKept.{step_at}
-use Rattle.esr_quiet.specs.PrefixLaws.{world_both, place_of, has_at}
+use Rattle.esr_quiet.specs.PrefixLaws.{place_of, has_at}
 use Rattle.esr_quiet.proofs.Prefixes.{told_at}
 use Rattle.esr_quiet.proofs.SpareFrame.{Spare}
 use Rattle.esr_quiet.proofs.SpareSteps.{step_spare}
@@ -51,9 +52,23 @@ tried_name f tried w l size k name c aside present = elim c.may [
 
 opened_spare : (f : Formats) (tried : ℕ → BlobName → Type 0) (image : Image) (w : World) → Opened f image w → Spare f tried w
 opened_spare f tried image w (OpenedEmpty e) =
-    record { shards = λ k t name there. absurd (nothing k t there); plans = λ k t uuids s name bytes there. absurd (nothing k t there); pending = λ o op s there. absurd (nothing o op there); roots = λ k n t there. absurd (nothing k t there); own = (λ j k n t u there. absurd (nothing j t there), λ j k id t u there. absurd (nothing j t there)); drawn = λ k t uuids s name bytes there. absurd (nothing k t there) }
+    record {
+      shards = λ k t name there. absurd (nothing k t there);
+      plans = λ k t uuids s name bytes there. absurd (nothing k t there);
+      pending = λ o op s there. absurd (nothing o op there);
+      roots = λ k n t there. absurd (nothing k t there);
+      own = (λ j k n t u there. absurd (nothing j t there), λ j k id t u there. absurd (nothing j t there));
+      drawn = λ k t uuids s name bytes there. absurd (nothing k t there);
+    }
 opened_spare f tried image w (OpenedRecord cluster text root is reads of_root) =
-    record { shards = λ k t name there. absurd (nothing k t there); plans = λ k t uuids s name bytes there. absurd (nothing k t there); pending = λ o op s there. absurd (nothing o op there); roots = λ k n t there. absurd (nothing k t there); own = (λ j k n t u there. absurd (nothing j t there), λ j k id t u there. absurd (nothing j t there)); drawn = λ k t uuids s name bytes there. absurd (nothing k t there) }
+    record {
+      shards = λ k t name there. absurd (nothing k t there);
+      plans = λ k t uuids s name bytes there. absurd (nothing k t there);
+      pending = λ o op s there. absurd (nothing o op there);
+      roots = λ k n t there. absurd (nothing k t there);
+      own = (λ j k n t u there. absurd (nothing j t there), λ j k id t u there. absurd (nothing j t there));
+      drawn = λ k t uuids s name bytes there. absurd (nothing k t there);
+    }
 
 pub opened_numbered : (f : Formats) (image : Image) (w : World) → Opened f image w → Numbered w
 opened_numbered f image w (OpenedEmpty e) = record { next = one; none = fin.get-empty nat_cmp 0 }
@@ -95,7 +110,7 @@ module _ (s : Start) (log : List Moment) (lawful : IsLawful s log) where
   state_next front back m is h =
       let w : World = world_of s front in
       let here : Allowed f s.part_size w m = step_at s log lawful.over front back m is in
-      let now : world_of s (front ++ m ∷ []) ≡ after f w m = world_both f front (m ∷ []) s.world in
+      let now : world_of s (front ++ m ∷ []) ≡ after f w m = world_parts f front (m ∷ []) s.world in
       let has : Has log m = subst (λ (l : List Moment). Has l m) (sym is) (has_at front back m) in
       let told = told_at log m lawful.over.told has in
       let law = lawful.lawful front (m ∷ back) is in
@@ -172,7 +187,8 @@ module _ (s : Start) (log : List Moment) (lawful : IsLawful s log) where
           | inr (inr later) ↦
               let p = place_of back x.moment later in
               let at : log ≡ (front ++ m ∷ p.front) ++ x.moment ∷ p.back = is ∙ ap (λ (l : List Moment). front ++ m ∷ l) p.is ∙ sym (append_assoc front (m ∷ p.front) (x.moment ∷ p.back)) in
-              none (front ++ m ∷ p.front) p.back x.moment at (subst (λ (k : ℕ). 1 ≤ k) (sym x.of) of_ticket) (subst IsSingle (sym x.step) tt) (made_of x.moment.entry.reply x.left) m (has_at front p.front m) (sym x.of) made (ap uncounted (step ∙ sym x.step))
+              none (front ++ m ∷ p.front) p.back x.moment at (subst (λ (k : ℕ). 1 ≤ k) (sym x.of) of_ticket) (subst IsSingle (sym x.step) tt)
+              (made_of x.moment.entry.reply x.left) m (has_at front p.front m) (sym x.of) made (ap uncounted (step ∙ sym x.step))
         ]
       where
         single : IsSingle m.entry.step

@@ -9,6 +9,7 @@ use Rattle.esr_core.specs.Restores.{IsTestOf, WasRead}
 use Rattle.esr_core.specs.Entry.{Why, OfDepot, OfSource, OfChange, OfAbsence, OfUnreadable, OfAhead, OfTaken, OfAbort, OfIdsSpent, OfGenerationsSpent, OfTarget, OfPrint, OfDisagreement, ReadBlob, DrawTest, Step, ReadStep, IdsSpent, NameTaken, Reply, DrawnFrom, WasAbsent, DepotFault, Refused, Moment}
 use Rattle.esr_core.specs.Allowed.{MayVerify}
 use Rattle.esr_names.specs.IdText.{id_text}
+use Rattle.esr_model.specs.Lists.{Has-left}
 use Rattle.esr_desk.specs.declared.fault.Fault.{Fault}
 use Rattle.esr_desk.specs.declared.fault.By.{By}
 use Rattle.esr_desk.specs.Start.{Start, formats_of, world_of}
@@ -19,7 +20,7 @@ use Rattle.esr_quiet.specs.Caused.{AreVerifyCaused}
 use Rattle.esr_quiet.specs.Smooth.{IsSmooth, NoneUnverified}
 use Rattle.esr_quiet.specs.Prefixes.{Prefixes}
 use Rattle.esr_core.specs.Laws.NumberMaps.{some_none}
-use Rattle.esr_quiet.specs.PrefixLaws.{place_of, has_front, quiet_at, legal_at}
+use Rattle.esr_quiet.specs.PrefixLaws.{place_of, quiet_at, legal_at}
 use Rattle.esr_quiet.proofs.Prefixes.{told_at}
 use Rattle.esr_quiet.proofs.Failures.{read_shown, step_shown, no_depot_fault}
 use Rattle.esr_quiet.proofs.Restores.{missed_at}
@@ -45,7 +46,7 @@ replied log front back is c step reply h =
     let draw : Moment = record { entry = record { who = 0; step = ReadStep DrawTest; reply = DrawnFrom h.id }; image = h.had.image } in
     let m : Moment = record { entry = record { who = 0; step = step; reply = reply }; image = h.had.had.image } in
     let within : Has front m = subst (λ (l : List Moment). Has l m) (sym h.had.is) (behind h.had.before draw h.had.more m h.had.had.there) in
-    let there : Has log m = subst (λ (l : List Moment). Has l m) (sym is) (has_front front back m within) in
+    let there : Has log m = subst (λ (l : List Moment). Has l m) (sym is) (Has-left front back m within) in
     let p = place_of log m there in
     record { front = p.front; back = p.back; moment = m; is = p.is; there = there; step_is = refl; reply_is = refl }
 
@@ -102,7 +103,7 @@ module _ (s : Start) (log : List Moment) (smooth : IsSmooth s log) (prefixes : P
   unspent : (front back : List Moment) → log ≡ front ++ back → (c : Caller) (next : ℕ) → HadNoId front c next → ⊥
   unspent front back is c next h =
       let m : Moment = record { entry = record { who = 0; step = ReadStep DrawTest; reply = Refused (IdsSpent next) }; image = h.had.image } in
-      smooth.unspent m (subst (λ (l : List Moment). Has l m) (sym is) (has_front front back m h.had.there)) tt
+      smooth.unspent m (subst (λ (l : List Moment). Has l m) (sym is) (Has-left front back m h.had.there)) tt
 
   -- no cause is shown
   pub shows : {S F H T : Type 0} (e : Evidence S F H T) (front back : List Moment) → log ≡ front ++ back → (why : Why) (b : By S F H T) → IsVerifyShownBy e s front (caller_of s front) why b → ⊥

@@ -1,6 +1,7 @@
 -- A history and its prefixes.
 use Rattle.std.proofs.Common.{◌≡◌, ℕ, List, [], ◌∷◌, ◌++◌, refl, ap, inl, inr, append_assoc, sym, ◌∙◌, subst}
 use Rattle.esr_model.specs.Values.{Has, Formats}
+use Rattle.esr_model.specs.Lists.{Has-left}
 use Rattle.esr_core.specs.World.{World}
 use Rattle.esr_core.specs.Entry.{Moment}
 use Rattle.esr_core.specs.After.{after}
@@ -10,10 +11,6 @@ use Rattle.esr_desk.specs.Start.{Start, formats_of, world_of}
 use Rattle.esr_quiet.specs.Smooth.{IsSmooth}
 use Rattle.esr_quiet.specs.Refusals.{HasAskedCleanup}
 use Rattle.esr_quiet.specs.QuietWorlds.{IsQuiet, quiet_history, quiet_opened}
-
-pub world_both : (f : Formats) (front back : List Moment) (w : World) → world_from f w (front ++ back) ≡ world_from f (world_from f w front) back
-world_both f [] back w = refl
-world_both f (m ∷ front) back w = world_both f front back (after f w m)
 
 pub legal_rest : (f : Formats) (size : ℕ) (front back : List Moment) (w : World) → IsLegal f size w (front ++ back) → IsLegal f size (world_from f w front) back
 legal_rest f size [] back w legal = legal
@@ -38,11 +35,6 @@ place_of [] m h = absurd h
 place_of (n ∷ log) m (inl e) = record { front = []; back = log; is = ap (λ (x : Moment). x ∷ log) e }
 place_of (n ∷ log) m (inr h) = let p = place_of log m h in record { front = n ∷ p.front; back = p.back; is = ap (λ (l : List Moment). n ∷ l) p.is }
 
-pub has_front : (front back : List Moment) (m : Moment) → Has front m → Has (front ++ back) m
-has_front [] back m h = absurd h
-has_front (n ∷ front) back m (inl e) = inl e
-has_front (n ∷ front) back m (inr h) = inr (has_front front back m h)
-
 pub has_at : (front back : List Moment) (m : Moment) → Has (front ++ m ∷ back) m
 has_at [] back m = inl refl
 has_at (n ∷ front) back m = inr (has_at front back m)
@@ -50,7 +42,7 @@ has_at (n ∷ front) back m = inr (has_at front back m)
 module _ (s : Start) (log : List Moment) (smooth : IsSmooth s log) where
   pub quiet_at : (front back : List Moment) → log ≡ front ++ back → IsQuiet s (HasAskedCleanup front) (world_of s front)
   quiet_at front back is =
-      let within : (m : Moment) → Has front m → Has log m = λ m h. subst (λ (l : List Moment). Has l m) (sym is) (has_front front back m h) in
+      let within : (m : Moment) → Has front m → Has log m = λ m h. subst (λ (l : List Moment). Has l m) (sym is) (Has-left front back m h) in
       quiet_history s (HasAskedCleanup front) (formats_of s) s.part_size front s.world (quiet_opened s (HasAskedCleanup front) (formats_of s) smooth.image s.world smooth.opened)
       (legal_front (formats_of s) s.part_size front back s.world (subst (IsLegal (formats_of s) s.part_size s.world) is smooth.legal))
       (λ m name indices moment h. smooth.steady m name indices moment (within m h)) (λ m h who asks. (m, h, who, asks)) (λ m h. smooth.calm m (within m h))
@@ -61,7 +53,7 @@ module _ (s : Start) (log : List Moment) (smooth : IsSmooth s log) where
   -- it is smooth up to each of its moments
   pub smooth_front : (front back : List Moment) → log ≡ front ++ back → IsSmooth s front
   smooth_front front back is =
-      let within : (m : Moment) → Has front m → Has log m = λ m h. subst (λ (l : List Moment). Has l m) (sym is) (has_front front back m h) in
+      let within : (m : Moment) → Has front m → Has log m = λ m h. subst (λ (l : List Moment). Has l m) (sym is) (Has-left front back m h) in
       record {
         tells = smooth.tells;
         quiet = smooth.quiet;

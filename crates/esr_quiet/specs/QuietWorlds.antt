@@ -1,5 +1,5 @@
 -- What is so in each world of a history over quiet objects.
-use Rattle.std.proofs.Common.{◌≡◌, ◌⊎◌, ℕ, Some, ap, inl, inr, ◌≢◌, zero, suc, ◌+◌, ◌<◌, Bool, true, false, true≢false, List, [], ◌∷◌, ◌++◌, Option, None, map, refl, sym, ◌∙◌, subst, arith, nat_cmp}
+use Rattle.std.proofs.Common.{◌≡◌, ◌⊎◌, ℕ, Some, ap, inl, inr, ◌≢◌, zero, suc, ◌+◌, ◌<◌, Bool, true, false, true≢false, List, [], ◌∷◌, Option, None, map, refl, sym, ◌∙◌, subst, arith, nat_cmp}
 use Rattle.std.specs.FinMap.{FinMap}
 use Rattle.std.proofs.lemmas.Option.{same_Some}
 use Rattle.std.specs.Prelude.{if◌then◌else◌, ◌==◌, ◌&&◌}
@@ -15,6 +15,7 @@ use Rattle.esr_core.specs.Allowed.{Allowed}
 use Rattle.esr_core.specs.After.{asked, asked_op, cloned_op, known_id, ref_by, next_by, refs_from, pending_shards, all_pending, taken_shard, taken_restore_shard, taken_restore, taken_by, read_told, shard_over, read_over, read_step, read_by, shard_of, with_given, committing, told_blob, fetching, settled_by, settled_of, done_by, done_of, is_stale, failed_by, failed_of, dropped_of, cleanup_opened, delete_settled_by, delete_settled, delete_failed_by, delete_failed, prune_step, done_step, answered, after}
 use Rattle.esr_core.specs.Restores.{restore_shard}
 use Rattle.esr_model.specs.Delete.{PrunedShard}
+use Rattle.esr_model.specs.Lists.{Has-mapped, Has-either}
 use Rattle.esr_core.specs.Deletes.{named_uuids, waiting_delete, running_delete, aborted_ops, with_named, delete_merged, delete_by}
 use Rattle.esr_core.specs.Pruning.{planned_work, planned}
 use Rattle.esr_core.specs.Turns.{Aborts, cleaning_ticket, fails, fails_by}
@@ -23,6 +24,7 @@ use Rattle.esr_core.specs.History.{world_from, IsLegal}
 use Rattle.esr_core.specs.Laws.DeleteAsks.{aborts}
 use Rattle.esr_core.specs.Laws.Asides.{blocked_stays}
 use Rattle.esr_core.specs.Laws.Makers.{maker}
+use Rattle.esr_core.specs.Laws.SnapshotOps.{ref_name}
 use Rattle.esr_desk.specs.Start.{Start}
 use Rattle.esr_quiet.specs.Asked.{IsSteady, AreSteady}
 use Rattle.esr_quiet.specs.Smooth.{AreCalm}
@@ -131,11 +133,6 @@ same_fails k z = go z.state
     go (Done r) = record { place = refl; name = refl; number = refl }
     go GivenUp = record { place = refl; name = refl; number = refl }
 
-has_mapped : (g : ShardWork → ShardWork) (shards : List ShardWork) (z : ShardWork) → Has (map g shards) z → (x : ShardWork) × Has shards x × (g x ≡ z)
-has_mapped g [] z h = absurd h
-has_mapped g (x ∷ shards) z (inl e) = (x, inl refl, e)
-has_mapped g (x ∷ shards) z (inr h) = let (y, m, e) = has_mapped g shards z h in (y, inr m, e)
-
 same_steady : (s : Start) (source : Option ℕ) (a b : ShardWork) → IsSame a b → IsOfSteady s source a → IsOfSteady s source b
 same_steady s None a b same steady = (λ j. s.steady (same.place j) (same.name j) (same.number j)) ∙ steady
 same_steady s (Some source) a b same steady = tt
@@ -143,7 +140,7 @@ same_steady s (Some source) a b same steady = tt
 -- the shards go on
 mapped_steady : (s : Start) (source : Option ℕ) (shards : List ShardWork) (g : ShardWork → ShardWork) → ((z : ShardWork) → IsSame z (g z)) → ((z : ShardWork) → Has shards z → IsOfSteady s source z) → (z : ShardWork)
     → Has (map g shards) z → IsOfSteady s source z
-mapped_steady s source shards g same steady z h = let (x, m, e) = has_mapped g shards z h in subst (IsOfSteady s source) e (same_steady s source x (g x) (same x) (steady x m))
+mapped_steady s source shards g same steady z h = let (x, m, e) = Has-mapped g shards z h in subst (IsOfSteady s source) e (same_steady s source x (g x) (same x) (steady x m))
 
 -- an op is put whose shards are steady
 put_steady : (s : Start) (ops : Ops) (o : ℕ) (op : Op) → ((z : ShardWork) → Has op.shards z → IsOfSteady s op.source z) → AreSteadyOps s ops → AreSteadyOps s (fin.insert ops o op)
@@ -151,10 +148,6 @@ put_steady s ops o op mine steady p q z there h = elim (was_in ops o op p q ther
 
 put_fine : (s : Start) (tickets : Tickets) (k : ℕ) (v : Ticket) → IsFine s v → AreFine s tickets → AreFine s (fin.insert tickets k v)
 put_fine s tickets k v mine fine p t there = elim (was_in tickets k v p t there) [ inl e ↦ subst (IsFine s) e.1 mine | inr e ↦ fine p t e.1 ]
-
-ref_name : (a : AskedIndex) (known : Option ℕ) (next : ℕ) → (ref_by a known next).name ≡ a.name
-ref_name a None next = refl
-ref_name a (Some id) next = refl
 
 ref_shards : (a : AskedIndex) (known : Option ℕ) (next : ℕ) → (ref_by a known next).shards ≡ a.shards
 ref_shards a None next = refl
@@ -173,16 +166,11 @@ pending_of a r first (suc n) z (inl e) =
     record { place = ap (λ (x : ShardWork). x.place) (sym e); name = ap (λ (x : ShardWork). x.ref.name) (sym e); number = omega (arith, is) }
 pending_of a r first (suc n) z (inr h) = let rest = pending_of a r (suc first) n z h in let below : z.number < suc first + n = rest.number in record { place = rest.place; name = rest.name; number = omega (arith, below) }
 
-has_either : (xs ys : List ShardWork) (z : ShardWork) → Has (xs ++ ys) z → Has xs z ⊎ Has ys z
-has_either [] ys z h = inr h
-has_either (x ∷ xs) ys z (inl e) = inl (inl e)
-has_either (x ∷ xs) ys z (inr h) = elim (has_either xs ys z h) [ inl m ↦ inl (inr m) | inr m ↦ inr m ]
-
 asked_steady : (s : Start) (w : World) (next : ℕ) (indices : List AskedIndex) → IsSteady s indices → (z : ShardWork) → Has (all_pending indices (refs_from w next indices)) z → IsOfSteady s None z
 asked_steady s w next [] steady z h = absurd h
 asked_steady s w next (a ∷ indices) steady z h =
     let r : IndexRef = ref_by a (known_id w a.name) next in
-    elim (has_either (pending_shards a r 0 r.shards) (all_pending indices (refs_from w (next_by (known_id w a.name) next) indices)) z h) [
+    elim (Has-either (pending_shards a r 0 r.shards) (all_pending indices (refs_from w (next_by (known_id w a.name) next) indices)) z h) [
       | inl m ↦
           let x = pending_of a r 0 r.shards z m in
           let below : z.number < 0 + r.shards = x.number in

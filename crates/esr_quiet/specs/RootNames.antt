@@ -1,8 +1,6 @@
 -- The names of the indices of what reads as a root differ.
-use Rattle.std.proofs.Common.{◌≡◌, ◌⊎◌, inl, inr, ℕ, true, false, true≢false, List, [], ◌∷◌, Some, option_map, Result, Ok, Err, Ordering, Less, is_eq, nat_cmp, refl, sym, ap, ◌∙◌, subst}
+use Rattle.std.proofs.Common.{◌≡◌, inl, inr, ℕ, true, false, true≢false, List, Some, option_map, Result, Ok, Err, Less, is_eq, nat_cmp, refl, sym, ap, ◌∙◌, subst}
 use Rattle.std.specs.Result.{result_ok}
-use Rattle.std.specs.List.{AllByRecursion}
-use Rattle.std.specs.List.Sorted.{IsStrictlySortedBy}
 use Rattle.std.specs.Cmp.Lexicographic.{slice_cmp}
 use Rattle.std.proofs.lemmas.Map.Text.{is_eq-slice_cmp}
 use Rattle.std.proofs.lemmas.Slice.Eq.{bytes_eq-Decides}
@@ -13,15 +11,8 @@ use Rattle.esr_root.specs.ReadRoots.{root_is}
 use Rattle.esr_formats.specs.Roots.{root_of, root_index_of, root_kind}
 use Rattle.esr_formats.specs.Formats.{formats}
 use Rattle.esr_model.specs.Values.{Bytes, Has, RootIndex, RootData, Kind}
-use Rattle.esr_model.specs.Lists.{Has-mapped}
+use Rattle.esr_model.specs.Lists.{Has-mapped, rising_has}
 use Rattle.esr_desk.specs.Start.{Start, formats_of}
-
--- ---- tests of lists
-
-pub all_has : {A : Type 0} (P : A → Type 0) (xs : List A) (x : A) → AllByRecursion P xs → Has xs x → P x
-all_has P [] x all none = absurd none
-all_has P (y ∷ ys) x all (inl here) = subst P here all.0
-all_has P (y ∷ ys) x all (inr later) = all_has P ys x all.1 later
 
 -- ---- the snapshots of its indices are listed
 
@@ -34,14 +25,6 @@ root_kind_is s = refl
 -- two of its indices that have one name are one
 abbrev pub AreNamedApart : RootData → Type 0
 AreNamedApart root = (x y : RootIndex) → Has root.indices x → Has root.indices y → x.name ≡ y.name → x ≡ y
-
-rising_has : {A : Type 0} (c : A → A → Ordering) (xs : List A) (x y : A) → IsStrictlySortedBy c xs → Has xs x → Has xs y → (x ≡ y) ⊎ ((c x y ≡ Less) ⊎ (c y x ≡ Less))
-unfolding IsStrictlySortedBy
-rising_has c [] x y rises none h = absurd none
-rising_has c (z ∷ zs) x y rises (inl a) (inl b) = inl (sym a ∙ b)
-rising_has c (z ∷ zs) x y rises (inl a) (inr b) = inr (inl (subst (λ w. c w y ≡ Less) a (all_has (λ w. c z w ≡ Less) zs y rises.0 b)))
-rising_has c (z ∷ zs) x y rises (inr a) (inl b) = inr (inr (subst (λ w. c w x ≡ Less) b (all_has (λ w. c z w ≡ Less) zs x rises.0 a)))
-rising_has c (z ∷ zs) x y rises (inr a) (inr b) = rising_has c zs x y rises.1 a b
 
 same_less : (a b : List ℕ) → a ≡ b → slice_cmp nat_cmp a b ≡ Less → ⊥
 same_less a b same less = true≢false (sym ((bytes_eq-Decides a b).1 same) ∙ sym (is_eq-slice_cmp a b) ∙ ap is_eq less)

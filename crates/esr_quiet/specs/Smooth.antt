@@ -1,11 +1,12 @@
 -- A history over quiet objects that tell, in which no number was spent.
 use Rattle.std.specs.Prelude.{◌≡◌, ◌≢◌, ◌≤◌, ℕ, true, false, List, ◌∷◌, ◌++◌, None}
+use Rattle.esr_model.specs.Names.{BlobName}
 use Rattle.esr_model.specs.Values.{Bytes, Has}
 use Rattle.esr_model.specs.Shelf.{Shelved}
 use Rattle.esr_model.specs.Image.{Image}
 use Rattle.esr_model.specs.Kept.{Kept}
 use Rattle.esr_core.specs.World.{Opened}
-use Rattle.esr_core.specs.Entry.{Asked, Restore, GivenCleanup, AskStep, FailedStep, Why, ElectStep, ReadStep, PruneStep, DeleteFails, CheckedAll, DrawTest, ReadFails, Reply, Gave, HasEnded, Refused, DepotFault, IdsSpent, GenerationsSpent, TermsSpent, Moment}
+use Rattle.esr_core.specs.Entry.{Asked, Restore, GivenCleanup, AskStep, FailedStep, Why, ElectStep, ReadStep, PruneStep, DeleteFails, ReadBlob, CheckedAll, DrawTest, ReadFails, Reply, Gave, HasEnded, WasFetched, Refused, DepotFault, IdsSpent, GenerationsSpent, TermsSpent, Moment}
 use Rattle.esr_core.specs.History.{AllKnown, AreTold}
 use Rattle.esr_desk.specs.Start.{Start, formats_of, world_of, Legal, ticket_of}
 use Rattle.esr_desk.specs.Once.{AreOnce}
@@ -98,3 +99,7 @@ NoneAsked log = (m : Moment) (name place : Bytes) → Has log m → m.entry.who 
 -- who 0 was to draw an id, with which a verification begins
 abbrev pub HasDrawn : List Moment → Type 0
 HasDrawn log = (m : Moment) × Has log m × (m.entry.who ≡ 0) × (m.entry.step ≡ ReadStep DrawTest)
+
+-- each blob that a restore, a check or a verification fetched was there
+abbrev pub EachFetchFinds : List Moment → Type 0
+EachFetchFinds log = (m : Moment) (name : BlobName) → Has log m → m.entry.step ≡ ReadStep (ReadBlob name) → m.entry.reply ≡ WasFetched

@@ -13,7 +13,7 @@ ghost use Rattle.esr_desk.specs.Last.{IsLast};
 ghost use Rattle.esr_desk.specs.Evidence.{Evidence};
 ghost use Rattle.esr_desk.specs.Grew.{AllOf};
 ghost use Rattle.esr_quiet.specs.Caused.{AreCaused, AreVerifyCaused};
-ghost use Rattle.esr_quiet.specs.Smooth.{IsSmooth, NoneFailed, NoneUndeleted, NoneUnrestored, NoneUnverified, NoneAsked};
+ghost use Rattle.esr_quiet.specs.Smooth.{IsSmooth, NoneFailed, NoneUndeleted, NoneUnrestored, NoneUnverified, NoneAsked, EachFetchFinds};
 ghost use Rattle.esr_quiet.specs.Refusals.{AreByRule};
 ghost use Rattle.esr_quiet.specs.Prefixes.{Prefixes};
 
@@ -68,10 +68,20 @@ pub fn no_check_fails<S, F, H, T>()
 
 /// And no step is refused but that of a command, by a rule, or the swap of a stale ticket: so no name is ever taken.
 pub fn only_rules_refuse()
-    ensures { (s : Start) (log : List Moment) → IsSmooth s log → NoneFailed log → AreByRule s log }
+    ensures { (s : Start) (log : List Moment) → IsSmooth s log → AreByRule s log }
 {
     each_world_is_free();
     rules_refuse_where_free();
+}
+
+/// Each blob that a restore, a check or a verification fetches is there.
+pub fn each_fetch_finds_its_blob()
+    ensures { (s : Start) (log : List Moment) → IsSmooth s log → EachFetchFinds log }
+{
+    each_world_is_free();
+    esr_core::opened_restores_are_lawful();
+    esr_core::each_history_keeps_restores();
+    esr_core::each_reader_is_served();
 }
 
 /// Steps of a ticket leave all other tickets; so does the giving of a unit, but for the ticket that it gives; and what else is asked leaves all.

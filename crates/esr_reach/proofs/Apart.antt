@@ -6,7 +6,7 @@ use Rattle.std.specs.declared.cmp.Ordering.{Ordering}
 use Rattle.std.specs.declared.cmp.Ordering.TheVariants.{Less, Equal, Greater}
 use Rattle.std.specs.Ordering.{match_ordering}
 use Rattle.std.specs.BTreeMap.{insert_entry}
-use Rattle.esr_model.specs.Lists.{Has-mapped}
+use Rattle.esr_model.specs.Lists.{Has-mapped, all_has}
 use Rattle.esr_names.specs.declared.blob.ShardId.{ShardId}
 use Rattle.esr_root.specs.Ids.{same_id}
 use Rattle.esr_root.specs.Snaps.{AreSnaps}
@@ -19,7 +19,7 @@ use Rattle.esr_formats.specs.Roots.{root_of, root_index_of}
 use Rattle.esr_formats.specs.Shards.{shard_index_of}
 use Rattle.esr_model.specs.Values.{Has, RootIndex}
 use Rattle.esr_reach.specs.Names.{AreOnce}
-use Rattle.esr_reach.specs.Members.{all_has, once_distinct}
+use Rattle.esr_reach.specs.Members.{once_distinct}
 use Rattle.esr_reach.specs.Held.{held_of, held_at, IsApart, AreWhole, AreApart}
 use Rattle.esr_reach.specs.Reached.{IsSingle}
 use Rattle.esr_reach.specs.OnceEach.{tests_apart, snaps_once, indices_once, shard_apart}

@@ -1,28 +1,17 @@
 -- How shards and names of blobs are compared: as equal exactly where they are.
-use Rattle.std.proofs.Common.{◌≡◌, ℕ, ◌==◌, ◌&&◌, Bool, true, false, List, [], ◌∷◌, map, Option, Some, cond, option_map, refl, sym, ap, ◌∙◌, inl, inr}
+use Rattle.std.proofs.Common.{◌≡◌, ◌==◌, ◌&&◌, Bool, true, false, List, [], ◌∷◌, map, Option, Some, cond, option_map, refl, sym, ap, ◌∙◌, inl, inr}
 use Rattle.std.proofs.lemmas.Bool.{cases_Bool}
-use Rattle.std.proofs.lemmas.Bool.Decides.{eqb_tells}
-use Rattle.std.proofs.lemmas.Map.Lookups.{exact_unsigned}
-use Rattle.std.specs.Cmp.{nat_cmp_is, Equal-is}
 use Rattle.std.specs.Map.{lookup}
 use Rattle.std.specs.declared.cmp.Ordering.{Ordering}
 use Rattle.std.specs.declared.cmp.Ordering.TheVariants.{Less, Equal, Greater}
 use Rattle.std.specs.Ordering.{is_eq, nat_cmp, ordering_then}
 use Rattle.esr_names.specs.declared.blob.ShardId.{ShardId}
 use Rattle.esr_shardidx.specs.Indices.{IndexValue}
+use Rattle.esr_shardidx.specs.FileOrder.{is_eq-nat_cmp}
 use Rattle.esr_formats.specs.Shards.{shard_index_of}
 use Rattle.esr_model.specs.Values.{ShardFiles}
 use Rattle.esr_reach.specs.Held.{held_of, held_at, Holds}
 use Rattle.esr_reach.specs.NameOrder.{shard_cmp}
-
-nat_tells : (a b : ℕ) → is_eq (nat_cmp a b) ≡ (a == b)
-nat_tells a b = elim (eqb_tells a b) [
-  | inl same ↦ let is : Equal ≡ nat_cmp a b = nat_cmp_is a b Equal same.1 in ap is_eq (sym is) ∙ sym same.0
-  | inr other ↦ elim (cases_Bool (is_eq (nat_cmp a b))) [
-    | inl equal ↦ absurd (other.1 (exact_unsigned a b ((Equal-is (nat_cmp a b)).0 equal)))
-    | inr apart ↦ apart ∙ sym other.0
-  ]
-]
 
 then_tells : (p q : Ordering) → is_eq (ordering_then p q) ≡ (is_eq p && is_eq q)
 then_tells Less q = refl
@@ -32,7 +21,7 @@ then_tells Greater q = refl
 pub shard_tells : (a b : ShardId) → is_eq (shard_cmp a b) ≡ (a.index.number == b.index.number && a.number == b.number)
 shard_tells a b =
     then_tells (nat_cmp a.index.number b.index.number) (nat_cmp a.number b.number)
-    ∙ ap (λ (t : Bool). t && is_eq (nat_cmp a.number b.number)) (nat_tells a.index.number b.index.number) ∙ ap (λ (t : Bool). a.index.number == b.index.number && t) (nat_tells a.number b.number)
+    ∙ ap (λ (t : Bool). t && is_eq (nat_cmp a.number b.number)) (is_eq-nat_cmp a.index.number b.index.number) ∙ ap (λ (t : Bool). a.index.number == b.index.number && t) (is_eq-nat_cmp a.number b.number)
 
 -- ---- what a map holds
 

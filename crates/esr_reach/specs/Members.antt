@@ -1,8 +1,8 @@
 -- Members of lists, and lists in which none stands twice.
 use Rattle.std.specs.Prelude.{◌≡◌, ◌⊎◌, Bool, true, false, if◌then◌else◌, List, [], ◌∷◌, ◌++◌, map, flat_map}
-use Rattle.std.specs.List.{AllByRecursion, IsDistinct}
+use Rattle.std.specs.List.{IsDistinct}
 use Rattle.std.proofs.Common.{inl, inr, refl, sym, subst}
-use Rattle.esr_model.specs.Lists.{Has-left, Has-right, Has-either, Has-mapped, Has-map}
+use Rattle.esr_model.specs.Lists.{Has-left, Has-right, Has-either, Has-mapped, Has-map, all_has}
 use Rattle.esr_model.specs.Values.{Has}
 use Rattle.esr_reach.specs.Names.{AreOnce}
 
@@ -31,11 +31,6 @@ pub in_flat : {A B : Type 0} (f : A → List B) (xs : List A) (x : A) (z : B) �
 in_flat f [] x z none has = absurd none
 in_flat {A} {B} f (y ∷ ys) x z (inl here) has = Has-left (f y) (flat_map f ys) z (subst (λ (w : A). Has (f w) z) (sym here) has)
 in_flat f (y ∷ ys) x z (inr later) has = Has-right (f y) (flat_map f ys) z (in_flat f ys x z later has)
-
-pub all_has : {A : Type 0} (P : A → Type 0) (xs : List A) (x : A) → AllByRecursion P xs → Has xs x → P x
-all_has P [] x all none = absurd none
-all_has P (y ∷ ys) x all (inl here) = subst P here all.0
-all_has P (y ∷ ys) x all (inr later) = all_has P ys x all.1 later
 
 -- ---- none twice
 

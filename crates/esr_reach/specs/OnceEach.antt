@@ -4,7 +4,7 @@ use Rattle.std.proofs.lemmas.Bool.{true≢false}
 use Rattle.std.proofs.lemmas.Simd.{map-map}
 use Rattle.std.specs.List.{list_any}
 use Rattle.std.specs.Str.{bytes_eq}
-use Rattle.esr_model.specs.Lists.{Has-right, Has-mapped, Has-map, Has-left}
+use Rattle.esr_model.specs.Lists.{Has-right, Has-mapped, Has-map, Has-left, all_has}
 use Rattle.esr_root.specs.Ids.{same_id}
 use Rattle.esr_root.specs.Snaps.{AreSnaps, clashes}
 use Rattle.esr_root.specs.Indices.{AreIndices, same_index}
@@ -17,7 +17,7 @@ use Rattle.esr_formats.specs.Roots.{root_snap_of, root_index_of}
 use Rattle.esr_formats.specs.Shards.{entry_of, snap_list_of, shard_index_of}
 use Rattle.esr_model.specs.Values.{Has, IsOneEach, RootSnap, RootIndex, FileEntry, SnapList}
 use Rattle.esr_reach.specs.Names.{AreOnce}
-use Rattle.esr_reach.specs.Members.{all_has, once_distinct}
+use Rattle.esr_reach.specs.Members.{once_distinct}
 use Rattle.esr_reach.specs.Held.{IsApart}
 
 -- ---- roots

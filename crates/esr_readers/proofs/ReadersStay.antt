@@ -25,7 +25,7 @@ use Rattle.esr_readers.specs.Order.{OrderLaws}
 use Rattle.esr_readers.specs.Readers.{RestoresIn, IsSameReader, IsThereAs, IsGiven, IsReaderOf, IsRestoreOf, ReadsAs}
 use Rattle.esr_readers.specs.RestoredShards.{restores_out}
 use Rattle.esr_model.specs.Lists.{Has-map, Has-mapped}
-use Rattle.esr_core.specs.Laws.Histories.{legal_parts}
+use Rattle.esr_core.specs.Laws.Histories.{legal_parts, world_parts}
 use Rattle.esr_core.specs.Laws.Asides.{blocked_stays}
 use Rattle.esr_core.specs.Laws.RestoreMaps.{LeavesPlace, handed_is, ended_is, handed_place, ended_place, apart_one, put_was, places_mapped, places_begun}
 use Rattle.esr_core.specs.Laws.RestoreFrames.{goes_answered}
@@ -41,11 +41,12 @@ Readers = FinMap nat_cmp Reader
 pub data Makes (w new : World) : Type 0 where
   MakesNothing : new.restores ≡ w.restores → new.readers ≡ w.readers → w.next_op ≤ new.next_op → Makes w new
   MakesRestore : (uuid : ℕ) (place : Bytes) (indices : List IndexRef) → new.restores ≡ put_restore w.restores w.next_op (restore_of uuid place indices) → new.readers ≡ w.readers → new.next_op ≡ suc w.next_op → Makes w new
-  MakesReader : (o : ℕ) (r : Restoring) (s : RestoreShard) → fin.get w.restores o ≡ Some r → Has r.shards s → s.state ≡ Unread → new.restores ≡ fin.insert w.restores o (record r { shards = map (handed w.next_ticket s.ref.id s.number) r.shards })
-      → new.readers ≡ fin.insert w.readers w.next_ticket (reader_of o r s) → new.next_op ≡ w.next_op → Makes w new
-  MakesMore : (k : ℕ) (q : Reader) (name : BlobName) (bytes : Bytes) → fin.get w.readers k ≡ Some q → new.restores ≡ w.restores → new.readers ≡ fin.insert w.readers k (read_more q name bytes) → new.next_op ≡ w.next_op → Makes w new
-  MakesEnd : (k : ℕ) (q : Reader) (r : Restoring) (state : ReadState) → fin.get w.readers k ≡ Some q → fin.get w.restores q.op ≡ Some r → waits state ≡ false → new.restores ≡ put_restore w.restores q.op (record r { shards = map (ended k state) r.shards })
-      → new.readers ≡ fin.insert w.readers k (record q { out = false }) → new.next_op ≡ w.next_op → Makes w new
+  MakesReader : (o : ℕ) (r : Restoring) (s : RestoreShard) → fin.get w.restores o ≡ Some r → Has r.shards s → s.state ≡ Unread
+      → new.restores ≡ fin.insert w.restores o (record r { shards = map (handed w.next_ticket s.ref.id s.number) r.shards }) → new.readers ≡ fin.insert w.readers w.next_ticket (reader_of o r s) → new.next_op ≡ w.next_op → Makes w new
+  MakesMore : (k : ℕ) (q : Reader) (name : BlobName) (bytes : Bytes) → fin.get w.readers k ≡ Some q → new.restores ≡ w.restores → new.readers ≡ fin.insert w.readers k (read_more q name bytes) → new.next_op ≡ w.next_op
+      → Makes w new
+  MakesEnd : (k : ℕ) (q : Reader) (r : Restoring) (state : ReadState) → fin.get w.readers k ≡ Some q → fin.get w.restores q.op ≡ Some r → waits state ≡ false
+      → new.restores ≡ put_restore w.restores q.op (record r { shards = map (ended k state) r.shards }) → new.readers ≡ fin.insert w.readers k (record q { out = false }) → new.next_op ≡ w.next_op → Makes w new
 
 makes_same : (w : World) → Makes w w
 makes_same w = MakesNothing refl refl (omega arith)
@@ -158,10 +159,12 @@ same_reader : (q : Reader) → IsSameReader q q
 same_reader q = record { op_is = refl; uuid_is = refl; index_is = refl; number_is = refl; name_is = refl; place_is = refl }
 
 same_reader_trans : (a b c : Reader) → IsSameReader a b → IsSameReader b c → IsSameReader a c
-same_reader_trans a b c p q = record { op_is = q.op_is ∙ p.op_is; uuid_is = q.uuid_is ∙ p.uuid_is; index_is = q.index_is ∙ p.index_is; number_is = q.number_is ∙ p.number_is; name_is = q.name_is ∙ p.name_is; place_is = q.place_is ∙ p.place_is }
+same_reader_trans a b c p q =
+    record { op_is = q.op_is ∙ p.op_is; uuid_is = q.uuid_is ∙ p.uuid_is; index_is = q.index_is ∙ p.index_is; number_is = q.number_is ∙ p.number_is; name_is = q.name_is ∙ p.name_is; place_is = q.place_is ∙ p.place_is }
 
 -- where one ticket is put anew as the same
-put_same_reader : (readers : Readers) (j : ℕ) (x y : Reader) → fin.get readers j ≡ Some x → IsSameReader x y → (k : ℕ) (q : Reader) → fin.get readers k ≡ Some q → (z : Reader) × (fin.get (fin.insert readers j y) k ≡ Some z) × IsSameReader q z
+put_same_reader : (readers : Readers) (j : ℕ) (x y : Reader) → fin.get readers j ≡ Some x → IsSameReader x y → (k : ℕ) (q : Reader) → fin.get readers k ≡ Some q
+    → (z : Reader) × (fin.get (fin.insert readers j y) k ≡ Some z) × IsSameReader q z
 put_same_reader readers j x y there same k q e = elim (split_at k j) [
   | inl at ↦
       let one : x ≡ q = same_Some x q (sym there ∙ ap (fin.get readers) (sym at) ∙ e) in
@@ -319,11 +322,8 @@ module _ (o uuid : ℕ) (place : Bytes) (indices : List IndexRef) where
         number_is = t.number_is;
       }
 
-world_parts : (f : Formats) (xs ys : List Moment) (w : World) → world_from f w (xs ++ ys) ≡ world_from f (world_from f w xs) ys
-world_parts f [] ys w = refl
-world_parts f (x ∷ xs) ys w = world_parts f xs ys (after f w x)
-
-pub readers_are : OrderLaws → AsksBegin → (f : Formats) (size : ℕ) (w : World) (before rest : List Moment) (m : Moment) (name place : Bytes) (o uuid : ℕ) (indices : List IndexRef) (k : ℕ) (q : Reader) → Tracked w → ReadTracked w → IsLegal f size w (before ++ m ∷ rest)
+pub readers_are : OrderLaws → AsksBegin → (f : Formats) (size : ℕ) (w : World) (before rest : List Moment) (m : Moment) (name place : Bytes) (o uuid : ℕ) (indices : List IndexRef) (k : ℕ) (q : Reader) → Tracked w → ReadTracked w
+    → IsLegal f size w (before ++ m ∷ rest)
     → m.entry.step ≡ AskStep (Restore name place) → m.entry.reply ≡ AcceptedRestore o uuid indices → IsReading (world_from f w (before ++ m ∷ rest)) k q → q.op ≡ o → IsReaderOf q uuid place indices
 readers_are laws begins f size w before rest m name place o uuid indices k q t l legal is e reading op =
     let v : World = world_from f w before in
@@ -430,7 +430,8 @@ restored_is f w zero files bytes image q r from there is = absurd (omega (arith,
 restored_is f w (suc k) files bytes image q r from there is = ap (read_over w (suc k) (Restored files bytes)) there ∙ ap (shard_over w (suc k) (Restored files bytes) q) is
 
 -- the one shard of this index and number is that which was being read
-read_ended : (k : ℕ) (q : Reader) (restores : Restores) (t : ReaderTracked restores k q) → ((s z : RestoreShard) → fin.get restores q.op ≡ Some t.r → Has t.r.shards s → Has t.r.shards z → s.ref.id ≡ z.ref.id → s.number ≡ z.number → s ≡ z)
+read_ended : (k : ℕ) (q : Reader) (restores : Restores) (t : ReaderTracked restores k q)
+    → ((s z : RestoreShard) → fin.get restores q.op ≡ Some t.r → Has t.r.shards s → Has t.r.shards z → s.ref.id ≡ z.ref.id → s.number ≡ z.number → s ≡ z)
     → (state : ReadState) → waits state ≡ false → (s : RestoreShard) → Has (map (ended k state) t.r.shards) s → s.ref.id ≡ q.index → s.number ≡ q.number → waits s.state ≡ false
 read_ended k q restores t distinct state over s m id num =
     let (z, zm, is) = Has-mapped (ended k state) t.r.shards s m in
@@ -442,7 +443,8 @@ read_ended k q restores t distinct state over s m id num =
           absurd (h.0 (ap (λ (y : RestoreShard). y.state) mine ∙ t.state))
     ]
 
-past_begun : (f : Formats) (size : ℕ) (w : World) (m : Moment) (k files bytes : ℕ) (q : Reader) → ReadTracked w → Allowed f size w m → RestoresIn m k files bytes → fin.get w.readers k ≡ Some q → IsPast (after f w m) q.op q.index q.number
+past_begun : (f : Formats) (size : ℕ) (w : World) (m : Moment) (k files bytes : ℕ) (q : Reader) → ReadTracked w → Allowed f size w m → RestoresIn m k files bytes → fin.get w.readers k ≡ Some q
+    → IsPast (after f w m) q.op q.index q.number
 past_begun f size w m k files bytes q l a is q_there =
     let reading : IsReading w k q = reader_out f size w m k files bytes q a is q_there in
     let t : ReaderTracked w.restores k q = l.tracked.readers k q q_there reading.out in
@@ -457,7 +459,8 @@ past_begun f size w m k files bytes q l a is q_there =
       ];
     }
 
-pub once_restored : (laws : OrderLaws) (f : Formats) (size : ℕ) (w : World) (before between : List Moment) (a b : Moment) (j k files bytes more total : ℕ) (p q : Reader) → Tracked w → ReadTracked w → IsLegal f size w (before ++ a ∷ between ++ b ∷ [])
+pub once_restored : (laws : OrderLaws) (f : Formats) (size : ℕ) (w : World) (before between : List Moment) (a b : Moment) (j k files bytes more total : ℕ) (p q : Reader) → Tracked w → ReadTracked w
+    → IsLegal f size w (before ++ a ∷ between ++ b ∷ [])
     → RestoresIn a j files bytes → RestoresIn b k more total → fin.get (world_from f w before).readers j ≡ Some p → fin.get (world_from f w (before ++ a ∷ between)).readers k ≡ Some q
     → p.op ≡ q.op → p.index ≡ q.index → p.number ≡ q.number → ⊥
 once_restored laws f size w before between a b j k files bytes more total p q t l legal a_is b_is p_there q_there op id num =
@@ -469,7 +472,8 @@ once_restored laws f size w before between a b j k files bytes more total p q t 
     let tv : Tracked v = laws.history f size w before t parts.0 in
     let lv : ReadTracked v = laws.read_history f size w before t l parts.0 in
     let begun : IsPast (after f v a) p.op p.index p.number = past_begun f size v a j files bytes p lv parts.1.0 a_is p_there in
-    let past : IsPast last p.op p.index p.number = subst (λ x. IsPast x p.op p.index p.number) (sym (world_parts f before (a ∷ between) w)) (past_legal p.op p.index p.number laws f size between (after f v a) (laws.step f size v a tv parts.1.0) parts.1.1 begun) in
+    let past : IsPast last p.op p.index p.number =
+    subst (λ x. IsPast x p.op p.index p.number) (sym (world_parts f before (a ∷ between) w)) (past_legal p.op p.index p.number laws f size between (after f v a) (laws.step f size v a tv parts.1.0) parts.1.1 begun) in
     none_reads p.op p.index p.number last (laws.read_history f size w log t l ends.0) past k q (reader_out f size last b k more total q ends.1.0 b_is q_there) op id num
 
 -- ---- the numbers of ops never fall
@@ -500,7 +504,8 @@ module _ (f : Formats) (size : ℕ) (w : World) (t : Tracked w) where
   room_now : w.next_id ≤ first_id (suc w.term)
   room_now = let b : w.next_id < first_id (suc w.term) = t.in_term.below in omega (arith, b)
 
-  restore_asked_leaves : (who : ℕ) (name place : Bytes) (reply : Reply) (image : Option Image) → Allows f size w who (AskStep (Restore name place)) reply image → (answered f w who (AskStep (Restore name place)) reply image).readers ≡ w.readers
+  restore_asked_leaves : (who : ℕ) (name place : Bytes) (reply : Reply) (image : Option Image) → Allows f size w who (AskStep (Restore name place)) reply image
+      → (answered f w who (AskStep (Restore name place)) reply image).readers ≡ w.readers
   restore_asked_leaves who name place reply image (allowed.AskingRestore n p rep im h same) = restore_leaves f w n p rep im h
   restore_asked_leaves who name place reply image (allowed.Cleaning command d x im recorded there clean same) = absurd (true≢false (sym recorded))
 

@@ -1,9 +1,10 @@
 -- What stands in maps of none, of one and of two.
-use Rattle.std.proofs.Common.{◌≡◌, ◌⊎◌, ℕ, Bool, true, false, cond, Some, None, nat_cmp, refl, sym, ap, ◌∙◌, inl, inr}
+use Rattle.std.proofs.Common.{◌≡◌, ◌⊎◌, ℕ, Bool, true, false, cond, Some, nat_cmp, refl, sym, ap, ◌∙◌, inl, inr}
 use Rattle.std.specs.Ordering.{eq_by_cmp}
 use Rattle.std.specs.Cmp.{nat_cmp_total}
 use Rattle.std.specs.FinMap.{FinMap, nat_cmp-IsAntisymmetric}
 use Rattle.std.specs.FinMap as fin
+use Rattle.std.proofs.lemmas.Option.{none-some}
 use Rattle.esr_core.specs.Laws.NumberMaps.{tied, same_in}
 use Rattle.esr_ready_trials.specs.Rows.{one, two}
 
@@ -15,11 +16,8 @@ inserted m n x q y e = go (eq_by_cmp nat_cmp q n) refl
     go true is = inl (nat_cmp-IsAntisymmetric q n (tied (nat_cmp q n) is))
     go false is = inr (sym (fin.get-insert nat_cmp_total m n x q ∙ ap (λ c. cond c (Some x) (fin.get m q)) is) ∙ e)
 
-some_none : {A : Type 0} (y : A) → None ≡ Some y → ⊥
-some_none y e = cc
-
 pub nothing : {A : Type 0} (q : ℕ) (y : A) → fin.get (fin.empty {K = ℕ} {X = A} {R = nat_cmp}) q ≡ Some y → ⊥
-nothing q y e = some_none y (sym (fin.get-empty nat_cmp q) ∙ e)
+nothing q y e = none-some y (sym (fin.get-empty nat_cmp q) ∙ e)
 
 pub of_one : {A : Type 0} (n : ℕ) (x : A) (q : ℕ) (y : A) → fin.get (one n x) q ≡ Some y → q ≡ n
 of_one n x q y e = elim (inserted fin.empty n x q y e) [ inl is ↦ is | inr there ↦ absurd (nothing q y there) ]

@@ -45,7 +45,12 @@ begun_repo l s clock past k b =
             no_entries = b.no_entries;
             client = record { made = λ e has. absurd (subst (λ (made : List Entry). Has (entries_by made 0) e) b.no_entries has); committed = λ name has. absurd (subst (λ (c : Caller). Has c.committed name) b.uncalled has) };
             stale = λ k was. absurd (subst (λ (made : List Entry). Has (entries_by made k) was.entry) b.no_entries was.there);
-            of_ops = record { some = λ k t there. absurd (no_ticket s.world b.no_tickets k t there); apart = λ k t uuids plan op there work is. absurd (no_ticket s.world b.no_tickets k t there); bare = λ k t there cleans. absurd (no_ticket s.world b.no_tickets k t there); over = λ k t op there settled is. absurd (no_ticket s.world b.no_tickets k t there) };
+            of_ops = record {
+              some = λ k t there. absurd (no_ticket s.world b.no_tickets k t there);
+              apart = λ k t uuids plan op there work is. absurd (no_ticket s.world b.no_tickets k t there);
+              bare = λ k t there cleans. absurd (no_ticket s.world b.no_tickets k t there);
+              over = λ k t op there settled is. absurd (no_ticket s.world b.no_tickets k t there);
+            };
             few_ops = omega arith;
             few_tickets = omega arith;
           };

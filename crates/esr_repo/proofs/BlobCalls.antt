@@ -6,6 +6,7 @@ use Rattle.std.specs.Cmp.{nat_cmp_total, eq_by_cmp_equiv}
 use Rattle.std.specs.Cmp.Lexicographic.{nat_list_cmp_total}
 use Rattle.std.specs.FinMap.{FinMap, nat_cmp-IsAntisymmetric}
 use Rattle.std.specs.FinMap as fin
+use Rattle.std.proofs.lemmas.Option.{same_Some}
 use Rattle.esr_core.specs.Laws.NumberMaps.{some_none, tied}
 use Rattle.esr_model.specs.Names.{BlobName, Latest}
 use Rattle.esr_model.specs.Values.{Bytes, ReadsBack, Formats}
@@ -45,9 +46,6 @@ use Rattle.esr_repo.specs.InfosAfter.{LeavesInfos}
 use Rattle.esr_repo.proofs.Frames.{rests_answered}
 use Rattle.esr_repo.proofs.Logs.{Goes, goes_passed, image_now, log_goes, log_stays}
 use Rattle.esr_repo.proofs.Repos.{cluster_is, names_are, plan_aside, infos_over, kept_now, steady_now, can_tell, text_same, added_repo, repo_stays}
-
-some_same : {A : Type 0} (x y : A) → Some x ≡ Some y → x ≡ y
-some_same x y e = cc
 
 -- what was put is there
 put_there : (m : Blobs) (k v : Bytes) → fin.get (fin.insert m k v) k ≡ Some v
@@ -145,7 +143,17 @@ idles_given : (w : World) (k : ℕ) (g : Ticket → Ticket) (o : Option Ticket) 
 idles_given w k g None there same = idles_same w
 idles_given w k g (Some t) there same =
     record {
-      plan = λ p h. record { ops = h.ops; deletes = h.deletes; completed = h.completed; seats = λ q. h.seats q ∙ sym (seats_stay w.tickets k t (g t) there (same t) q); next_op = h.next_op; next_ticket = h.next_ticket; restores = h.restores; restore_count = h.restore_count; readers = h.readers };
+      plan = λ p h. record {
+        ops = h.ops;
+        deletes = h.deletes;
+        completed = h.completed;
+        seats = λ q. h.seats q ∙ sym (seats_stay w.tickets k t (g t) there (same t) q);
+        next_op = h.next_op;
+        next_ticket = h.next_ticket;
+        restores = h.restores;
+        restore_count = h.restore_count;
+        readers = h.readers;
+      };
       next = refl;
     }
 
@@ -273,7 +281,17 @@ idles_told w k name bytes None there = idles_same w
 idles_told w k name None (Some q) there = idles_same w
 idles_told w k name (Some bytes) (Some q) there =
     record {
-      plan = λ p h. record { ops = h.ops; deletes = h.deletes; completed = h.completed; seats = h.seats; next_op = h.next_op; next_ticket = h.next_ticket; restores = h.restores; restore_count = h.restore_count; readers = λ j. h.readers j ∙ sym (readers_stay w.readers k q _ there refl j) };
+      plan = λ p h. record {
+        ops = h.ops;
+        deletes = h.deletes;
+        completed = h.completed;
+        seats = h.seats;
+        next_op = h.next_op;
+        next_ticket = h.next_ticket;
+        restores = h.restores;
+        restore_count = h.restore_count;
+        readers = λ j. h.readers j ∙ sym (readers_stay w.readers k q _ there refl j);
+      };
       next = refl;
     }
 
@@ -315,7 +333,7 @@ was_told old new h j e = go old refl
     go None n = absurd (some_none j (sym e ∙ h.untold n))
     go (Some i) n =
         let x = h.told i n in
-        (i, n, ap (λ (y : Held). y.text) (some_same j x.0 (sym e ∙ x.1)) ∙ x.2)
+        (i, n, ap (λ (y : Held). y.text) (same_Some j x.0 (sym e ∙ x.1)) ∙ x.2)
 
 tells_stay : (old new : Look) (tells : Bool) → TellsSo old tells → TextStays (now old) (now new) → TellsSo new tells
 tells_stay old new tells t h = record { untold = λ n. go (now old) refl n; told = λ j e. let x = was_told (now old) (now new) h j e in t.told x.0 x.1 }
@@ -326,7 +344,7 @@ tells_stay old new tells t h = record { untold = λ n. go (now old) refl n; told
 
 pub held_of : (o : Option Held) (image : Image) → option_map image_of o ≡ Some image → (j : Held) × (o ≡ Some j) × (image_of j ≡ image)
 held_of None image q = absurd (some_none image (sym q))
-held_of (Some j) image q = (j, refl, some_same (image_of j) image q)
+held_of (Some j) image q = (j, refl, same_Some (image_of j) image q)
 
 pub told_of : (o : Option Held) (P : Blobs → Type 0) → ((i : Held) → o ≡ Some i → P i.blobs) → Told (option_map image_of o) P
 told_of None P h = tt
@@ -416,7 +434,7 @@ module _ {old : Look} {s : Start} {clock : ℕ} {es : List Entry} {k : Kept} {d 
       blobs_put : (j : Held) → o ≡ Some j → j.blobs ≡ fin.insert (world_of s seen).blobs name bytes
       blobs_put j e =
           let x = was_told (now old) o text_put j e in
-          ap (λ (y : Held). y.blobs) (some_same j (with_blob x.0 name bytes) (sym e ∙ put_told x.0 x.1)) ∙ ap (λ (m : Blobs). fin.insert m name bytes) (blobs_are x.0 x.1)
+          ap (λ (y : Held). y.blobs) (same_Some j (with_blob x.0 name bytes) (sym e ∙ put_told x.0 x.1)) ∙ ap (λ (m : Blobs). fin.insert m name bytes) (blobs_are x.0 x.1)
 
       name_free : IsFree (now old) name → (j : Held) → o ≡ Some j → fin.get (world_of s seen).blobs name ≡ None
       name_free free j e =
@@ -493,21 +511,24 @@ module _ {old : Look} {s : Start} {clock : ℕ} {es : List Entry} {k : Kept} {d 
       begin_ok x c mid es' p =
           let e : Entry = record { who = who; step = step; reply = WasBegun } in
           let same : now new ≡ now old = c.done in
-          call_made e no_begin_swap (begin_leaves step nm e.reply m.is) mid es' p (call_is e no_begin_swap SameImage goes (c.passed refl) (begin_asks step nm m.is) (text_same_image (now old) (now new) same) (m.begins (named_of s nm back) (image_now new) (tell_of (now new) (text_same_image (now old) (now new) same)) (told_same (now new) same)) (same_cut (here e no_begin_swap)))
+          call_made e no_begin_swap (begin_leaves step nm e.reply m.is) mid es' p (call_is e no_begin_swap SameImage goes (c.passed refl) (begin_asks step nm m.is) (text_same_image (now old) (now new) same)
+          (m.begins (named_of s nm back) (image_now new) (tell_of (now new) (text_same_image (now old) (now new) same)) (told_same (now new) same)) (same_cut (here e no_begin_swap)))
           (idles_begun (formats_of s) (world_of s seen) who step nm (image_now new) m.is)
 
-      pub begin_fault : {T : Type 0} (error : CallError) → error ≡ Failed → Called {T = T} old new (λ _. SameImage) SameImage (Err error) → (mid es' : List Entry) → Pushed es mid es' (record { who = who; step = step; reply = Refused DepotFault })
-          → Made old new s clock es es' k d seen (record { who = who; step = step; reply = Refused DepotFault })
+      pub begin_fault : {T : Type 0} (error : CallError) → error ≡ Failed → Called {T = T} old new (λ _. SameImage) SameImage (Err error) → (mid es' : List Entry)
+          → Pushed es mid es' (record { who = who; step = step; reply = Refused DepotFault }) → Made old new s clock es es' k d seen (record { who = who; step = step; reply = Refused DepotFault })
       begin_fault {T} error is c mid es' p =
           let e : Entry = record { who = who; step = step; reply = Refused DepotFault } in
           let g = failed_is {T = T} old new (λ _. SameImage) SameImage error is c in
           let same : now new ≡ now old = g.1 in
-          call_made e no_begin_swap (begin_leaves step nm e.reply m.is) mid es' p (call_is e no_begin_swap SameImage goes g.0 refl (text_same_image (now old) (now new) same) (m.fails (named_of s nm back) (image_now new) (tell_of (now new) (text_same_image (now old) (now new) same)) (told_same (now new) same)) (same_cut (here e no_begin_swap)))
+          call_made e no_begin_swap (begin_leaves step nm e.reply m.is) mid es' p (call_is e no_begin_swap SameImage goes g.0 refl (text_same_image (now old) (now new) same)
+          (m.fails (named_of s nm back) (image_now new) (tell_of (now new) (text_same_image (now old) (now new) same)) (told_same (now new) same)) (same_cut (here e no_begin_swap)))
           (idles_unbegun (formats_of s) (world_of s seen) who step nm (image_now new) m.is)
 
     -- ---- a blob that is committed
 
-    module _ (who : ℕ) (step : Step) (nm : BlobName) (contents : Option Bytes) (bytes : Bytes) (h : Holds s contents bytes) (m : MayCommit s seen who step nm bytes) (goes : GoesOn s seen who step) (back : ReadsBack name_kind nm) (text : Bytes) (named : text ≡ name_kind.text nm) where
+    module _ (who : ℕ) (step : Step) (nm : BlobName) (contents : Option Bytes) (bytes : Bytes) (h : Holds s contents bytes) (m : MayCommit s seen who step nm bytes)
+        (goes : GoesOn s seen who step) (back : ReadsBack name_kind nm) (text : Bytes) (named : text ≡ name_kind.text nm) where
       no_commit_swap : swaps_record step ≡ false
       no_commit_swap = commit_no_swap step nm m.is
 
@@ -545,7 +566,8 @@ module _ {old : Look} {s : Start} {clock : ℕ} {es : List Entry} {k : Kept} {d 
           let c' = of_name (Ok commits.Done) (subst (λ x. Called old new (Committed text contents) (CommitMay text contents) (Ok x)) what c) in
           let is : now new ≡ put_known (now old) name_text contents = c'.done.0 in (
             call_made e no_commit_swap (commit_leaves step nm e.reply m.is) mid es' p
-                (call_is e no_commit_swap (CommitMay name_text contents) goes (c'.passed refl) (commit_asks step nm m.is) (text_put (now new) name_text contents bytes h is) (m.commits (named_of s nm back) (image_now new) (tell_of (now new) (text_put (now new) name_text contents bytes h is)) (told_of (now new) (IsAdded s seen nm bytes) (told_added (now new) is c'.done.1))) (commit_cut WasDone (image_now new)))
+                (call_is e no_commit_swap (CommitMay name_text contents) goes (c'.passed refl) (commit_asks step nm m.is) (text_put (now new) name_text contents bytes h is) (m.commits (named_of s nm back) (image_now new)
+                (tell_of (now new) (text_put (now new) name_text contents bytes h is)) (told_of (now new) (IsAdded s seen nm bytes) (told_added (now new) is c'.done.1))) (commit_cut WasDone (image_now new)))
                 (idles_committed (formats_of s) (world_of s seen) who step nm (image_now new) m.is),
             blob_put (now new) nm contents bytes h is,
           )
@@ -566,17 +588,19 @@ module _ {old : Look} {s : Start} {clock : ℕ} {es : List Entry} {k : Kept} {d 
           let c' = of_name (Ok commits.Exists) (subst (λ x. Called old new (Committed text contents) (CommitMay text contents) (Ok x)) what c) in
           let same : now new ≡ now old = c'.done.0 in
           call_made e no_commit_swap (commit_leaves step nm e.reply m.is) mid es' p
-          (call_is e no_commit_swap (CommitMay name_text contents) goes (c'.passed refl) (commit_asks step nm m.is) (text_same_image (now old) (now new) same) (m.finds (named_of s nm back) metadata (image_now new) (tell_of (now new) (text_same_image (now old) (now new) same)) (told_of (now new) (IsThere s seen nm) (told_there same c'.done.1))) (commit_cut WasThere (image_now new)))
+          (call_is e no_commit_swap (CommitMay name_text contents) goes (c'.passed refl) (commit_asks step nm m.is) (text_same_image (now old) (now new) same)
+          (m.finds (named_of s nm back) metadata (image_now new) (tell_of (now new) (text_same_image (now old) (now new) same)) (told_of (now new) (IsThere s seen nm) (told_there same c'.done.1))) (commit_cut WasThere (image_now new)))
           (idles_there (formats_of s) (world_of s seen) who step nm (image_now new) m.is)
 
-      pub commit_taken : (found : Commit) → found ≡ commits.Exists → Called old new (Committed text contents) (CommitMay text contents) (Ok found) → (IsMetadata nm → ⊥) → (mid es' : List Entry) → Pushed es mid es' (record { who = who; step = step; reply = Refused (NameTaken nm) })
-          → Made old new s clock es es' k d seen (record { who = who; step = step; reply = Refused (NameTaken nm) })
+      pub commit_taken : (found : Commit) → found ≡ commits.Exists → Called old new (Committed text contents) (CommitMay text contents) (Ok found) → (IsMetadata nm → ⊥) → (mid es' : List Entry)
+          → Pushed es mid es' (record { who = who; step = step; reply = Refused (NameTaken nm) }) → Made old new s clock es es' k d seen (record { who = who; step = step; reply = Refused (NameTaken nm) })
       commit_taken found what c other mid es' p =
           let e : Entry = record { who = who; step = step; reply = Refused (NameTaken nm) } in
           let c' = of_name (Ok commits.Exists) (subst (λ x. Called old new (Committed text contents) (CommitMay text contents) (Ok x)) what c) in
           let same : now new ≡ now old = c'.done.0 in
           call_made e no_commit_swap (commit_leaves step nm e.reply m.is) mid es' p
-          (call_is e no_commit_swap (CommitMay name_text contents) goes (c'.passed refl) refl (text_same_image (now old) (now new) same) (m.taken (named_of s nm back) other (image_now new) (tell_of (now new) (text_same_image (now old) (now new) same)) (told_of (now new) (IsThere s seen nm) (told_there same c'.done.1))) (commit_cut (Refused (NameTaken nm)) (image_now new)))
+          (call_is e no_commit_swap (CommitMay name_text contents) goes (c'.passed refl) refl (text_same_image (now old) (now new) same) (m.taken (named_of s nm back) other (image_now new)
+          (tell_of (now new) (text_same_image (now old) (now new) same)) (told_of (now new) (IsThere s seen nm) (told_there same c'.done.1))) (commit_cut (Refused (NameTaken nm)) (image_now new)))
           (idles_same (world_of s seen))
 
       pub commit_fault : (error : CallError) → error ≡ Failed → Called old new (Committed text contents) (CommitMay text contents) (Err error) → (mid es' : List Entry)
@@ -586,11 +610,14 @@ module _ {old : Look} {s : Start} {clock : ℕ} {es : List Entry} {k : Kept} {d 
           let e : Entry = record { who = who; step = step; reply = Refused DepotFault } in
           let g = failed_is old new (Committed name_text contents) (CommitMay name_text contents) error is (of_name (Err error) c) in
           let left = commit_left (now new) g.1 in
-          call_made e no_commit_swap (commit_leaves step nm e.reply m.is) mid es' p (call_is e no_commit_swap (CommitMay name_text contents) goes g.0 refl left.0 (m.fails (named_of s nm back) (image_now new) (tell_of (now new) left.0) left.1) (commit_cut (Refused DepotFault) (image_now new))) (idles_uncommitted (formats_of s) (world_of s seen) who step nm (image_now new) m.is)
+          call_made e no_commit_swap (commit_leaves step nm e.reply m.is) mid es' p
+          (call_is e no_commit_swap (CommitMay name_text contents) goes g.0 refl left.0 (m.fails (named_of s nm back) (image_now new) (tell_of (now new) left.0) left.1) (commit_cut (Refused DepotFault) (image_now new)))
+          (idles_uncommitted (formats_of s) (world_of s seen) who step nm (image_now new) m.is)
 
     -- ---- `index.latest` is replaced
 
-    module _ (who : ℕ) (contents : Option Bytes) (bytes : Bytes) (h : Holds s contents bytes) (m : MayReplace s seen who bytes) (goes : GoesOn s seen who LatestStep) (back : ReadsBack name_kind Latest) (text : Bytes) (named : text ≡ name_kind.text Latest) where
+    module _ (who : ℕ) (contents : Option Bytes) (bytes : Bytes) (h : Holds s contents bytes) (m : MayReplace s seen who bytes)
+        (goes : GoesOn s seen who LatestStep) (back : ReadsBack name_kind Latest) (text : Bytes) (named : text ≡ name_kind.text Latest) where
       abbrev latest_text : Bytes
       latest_text = (formats_of s).names.text Latest
 
@@ -621,16 +648,18 @@ module _ {old : Look} {s : Start} {clock : ℕ} {es : List Entry} {k : Kept} {d 
           let c' = of_latest (Ok x) c in
           let is : now new ≡ put_known (now old) latest_text contents = c'.done in
           call_made e refl tt mid es' p
-          (call_is e refl (ReplaceMay latest_text contents) goes (c'.passed refl) refl (text_put (now new) latest_text contents bytes h is) (m.puts (named_of s Latest back) (image_now new) (tell_of (now new) (text_put (now new) latest_text contents bytes h is)) (told_of (now new) (IsPut s seen Latest bytes) (blobs_put (now new) latest_text contents bytes h is))) (replace_cut WasReplaced (image_now new)))
+          (call_is e refl (ReplaceMay latest_text contents) goes (c'.passed refl) refl (text_put (now new) latest_text contents bytes h is) (m.puts (named_of s Latest back) (image_now new)
+          (tell_of (now new) (text_put (now new) latest_text contents bytes h is)) (told_of (now new) (IsPut s seen Latest bytes) (blobs_put (now new) latest_text contents bytes h is))) (replace_cut WasReplaced (image_now new)))
           idles_latest
 
-      pub replace_fault : (error : CallError) → error ≡ Failed → Called {T = Unit {0}} old new (λ _. Replaced text contents) (ReplaceMay text contents) (Err error) → (mid es' : List Entry) → Pushed es mid es' (record { who = who; step = LatestStep; reply = Refused DepotFault })
-          → Made old new s clock es es' k d seen (record { who = who; step = LatestStep; reply = Refused DepotFault })
+      pub replace_fault : (error : CallError) → error ≡ Failed → Called {T = Unit {0}} old new (λ _. Replaced text contents) (ReplaceMay text contents) (Err error) → (mid es' : List Entry)
+          → Pushed es mid es' (record { who = who; step = LatestStep; reply = Refused DepotFault }) → Made old new s clock es es' k d seen (record { who = who; step = LatestStep; reply = Refused DepotFault })
       replace_fault error is c mid es' p =
           let e : Entry = record { who = who; step = LatestStep; reply = Refused DepotFault } in
           let g = failed_is {T = Unit {0}} old new (λ _. Replaced latest_text contents) (ReplaceMay latest_text contents) error is (of_latest (Err error) c) in
           let left = replace_left (now new) g.1 in
-          call_made e refl tt mid es' p (call_is e refl (ReplaceMay latest_text contents) goes g.0 refl left.0 (m.fails (named_of s Latest back) (image_now new) (tell_of (now new) left.0) left.1) (replace_cut (Refused DepotFault) (image_now new))) idles_latest
+          call_made e refl tt mid es' p
+          (call_is e refl (ReplaceMay latest_text contents) goes g.0 refl left.0 (m.fails (named_of s Latest back) (image_now new) (tell_of (now new) left.0) left.1) (replace_cut (Refused DepotFault) (image_now new))) idles_latest
 
     -- ---- a blob that is fetched
 
@@ -696,13 +725,16 @@ module _ {old : Look} {s : Start} {clock : ℕ} {es : List Entry} {k : Kept} {d 
           let same : now new ≡ now old = c'.done in
           let free' : IsFree (now old) fetched_text = subst (λ t. IsFree (now old) t) (named ∙ names_text s nm) free in
           call_made e noswap (fetch_leaves step nm e.reply m.is) mid es' p
-          (call_is e noswap SameImage goes (c'.passed refl) (fetch_asks step nm m.is) (text_same_image (now old) (now new) same) (m.misses (named_of s nm back) (image_now new) (tell_of (now new) (text_same_image (now old) (now new) same)) (told_of (now new) (IsFound s seen nm None) (told_found None same free'))) (same_cut (here e noswap)))
+          (call_is e noswap SameImage goes (c'.passed refl) (fetch_asks step nm m.is) (text_same_image (now old) (now new) same)
+          (m.misses (named_of s nm back) (image_now new) (tell_of (now new) (text_same_image (now old) (now new) same)) (told_of (now new) (IsFound s seen nm None) (told_found None same free'))) (same_cut (here e noswap)))
           (idles_absent (formats_of s) (world_of s seen) who step nm (image_now new) m.is)
 
-      pub fetch_fault : {T : Type 0} (error : CallError) → error ≡ Failed → Called {T = T} old new (λ _. SameImage) SameImage (Err error) → (mid es' : List Entry) → Pushed es mid es' (record { who = who; step = step; reply = Refused DepotFault })
-          → Made old new s clock es es' k d seen (record { who = who; step = step; reply = Refused DepotFault })
+      pub fetch_fault : {T : Type 0} (error : CallError) → error ≡ Failed → Called {T = T} old new (λ _. SameImage) SameImage (Err error) → (mid es' : List Entry)
+          → Pushed es mid es' (record { who = who; step = step; reply = Refused DepotFault }) → Made old new s clock es es' k d seen (record { who = who; step = step; reply = Refused DepotFault })
       fetch_fault {T} error is c mid es' p =
           let e : Entry = record { who = who; step = step; reply = Refused DepotFault } in
           let g = failed_is {T = T} old new (λ _. SameImage) SameImage error is c in
           let same : now new ≡ now old = g.1 in
-          call_made e noswap (fetch_leaves step nm e.reply m.is) mid es' p (call_is e noswap SameImage goes g.0 refl (text_same_image (now old) (now new) same) (m.fails (named_of s nm back) (image_now new) (tell_of (now new) (text_same_image (now old) (now new) same)) (told_same (now new) same)) (same_cut (here e noswap))) (idles_unfetched (formats_of s) (world_of s seen) who step nm (image_now new) m.is)
+          call_made e noswap (fetch_leaves step nm e.reply m.is) mid es' p (call_is e noswap SameImage goes g.0 refl (text_same_image (now old) (now new) same)
+          (m.fails (named_of s nm back) (image_now new) (tell_of (now new) (text_same_image (now old) (now new) same)) (told_same (now new) same)) (same_cut (here e noswap)))
+          (idles_unfetched (formats_of s) (world_of s seen) who step nm (image_now new) m.is)

@@ -4,12 +4,10 @@ use Rattle.std.specs.Prelude.{not, if◌then◌else◌}
 use Rattle.std.specs.Ordering.{nat_cmp}
 use Rattle.std.specs.FinMap.{FinMap}
 use Rattle.std.specs.FinMap as fin
-use Rattle.esr_model.specs.Values.{Formats}
-use Rattle.esr_model.specs.Image.{Image}
+use Rattle.std.proofs.lemmas.Option.{same_Some, none-some}
 use Rattle.esr_core.specs.World.{World, Op, Ticket, Work, Shard, Finalize, Deleting, Drop}
-use Rattle.esr_core.specs.Entry.{Step, FailedStep, Refusal, Refused}
-use Rattle.esr_core.specs.After.{answered}
-use Rattle.esr_core.specs.Allowed.{IsFailure, IsAborted, Blocks, ByFailedSwap, ByDelete}
+use Rattle.esr_core.specs.Entry.{Step, FailedStep, Refused}
+use Rattle.esr_core.specs.Allowed.{IsFailure, IsAborted}
 use Rattle.esr_ops.specs.Plan.{Plan, kind_of, seat_of, seat_out, IsPlanOf}
 use Rattle.esr_ops.specs.Seats.{is_drop}
 use Rattle.esr_progress.specs.Aborts.{op_aborter, aborter}
@@ -20,17 +18,6 @@ use Rattle.esr_desk.specs.Refusals.{refusal_of}
 use Rattle.esr_repo.specs.Log.{calls}
 use Rattle.esr_repo.specs.Counted.{is_fault}
 use Rattle.esr_repo.specs.Blocks.{is_failure, as_aborted, block_of}
-
-none_some : {A : Type 0} (x : A) → None ≡ Some x → ⊥
-none_some x e = cc
-
-some_same : {A : Type 0} (x y : A) → Some x ≡ Some y → x ≡ y
-some_same x y e = cc
-
--- such a refusal leaves the world, what was made aside
-pub block_stays : (f : Formats) (w : World) (who : ℕ) (step : Step) (refusal : Refusal) (image : Option Image) → Blocks w who step refusal → answered f w who step (Refused refusal) image ≡ w
-block_stays f w who step refusal image (ByFailedSwap place deposed) = refl
-block_stays f w who step refusal image (ByDelete by alive aborted) = refl
 
 -- ---- the delete that has aborted the op of a ticket
 
@@ -55,20 +42,20 @@ fails_not step never = refl
 -- a ticket of this op, which a delete has aborted
 module _ (w : World) (who : ℕ) (step : Step) (by : ℕ) (other : is_failure step ≡ false) (t : Ticket) (there : fin.get w.tickets who ≡ Some t) where
   by_op : t.out ≡ true → is_drop (kind_of t.work) ≡ false → (o : Option Op) → fin.get w.ops t.op ≡ o → op_aborter o ≡ Some by → IsAborted w who step by
-  by_op out no_drop None e a = absurd (none_some by a)
+  by_op out no_drop None e a = absurd (none-some by a)
   by_op out no_drop (Some op) e a =
       record { t = t; out = record { there = there; out = out }; op = op; op_there = e; by_is = a; no_drop = λ is. true≢false (sym (ap (λ (x : Work). is_drop (kind_of x)) is) ∙ no_drop); no_failure = no_failure step other }
 
   by_kind : (drops : Bool) → is_drop (kind_of t.work) ≡ drops → t.out ≡ true → (if not drops then op_aborter (fin.get w.ops t.op) else None) ≡ Some by → IsAborted w who step by
   by_kind false no_drop out a = by_op out no_drop (fin.get w.ops t.op) refl a
-  by_kind true no_drop out a = absurd (none_some by a)
+  by_kind true no_drop out a = absurd (none-some by a)
 
   by_out : (out : Bool) → t.out ≡ out → aborter w.ops (if out then Some (seat_of t) else None) ≡ Some by → IsAborted w who step by
   by_out true out a = by_kind (is_drop (kind_of t.work)) refl out a
-  by_out false out a = absurd (none_some by a)
+  by_out false out a = absurd (none-some by a)
 
 by_ticket : (w : World) (who : ℕ) (step : Step) (by : ℕ) → is_failure step ≡ false → (o : Option Ticket) → fin.get w.tickets who ≡ o → aborter w.ops (seat_out o) ≡ Some by → IsAborted w who step by
-by_ticket w who step by other None e a = absurd (none_some by a)
+by_ticket w who step by other None e a = absurd (none-some by a)
 by_ticket w who step by other (Some t) e a = by_out w who step by other t e t.out refl a
 
 module _ (w : World) (plan : Plan) (who : ℕ) (step : Step) (h : IsPlanOf w plan) where
@@ -91,15 +78,15 @@ module _ (w : World) (plan : Plan) (who : ℕ) (step : Step) (h : IsPlanOf w pla
   -- where nothing blocks the step, no delete has
   pub unaborted : block_of None plan who step ≡ None → (by : ℕ) → IsAborted w who step by → ⊥
   unaborted free by x =
-      none_some (refusals.Aborted by)
+      none-some (refusals.Aborted by)
       (sym free ∙ ap (λ (b : Bool). if b then None else as_aborted (aborter plan.ops (fin.get plan.seats who))) (fails_not step x.no_failure) ∙ ap as_aborted (aborts by x))
 
 -- two deletes that have aborted it are one
 pub one_aborter : (w : World) (who : ℕ) (step : Step) (a b : ℕ) → IsAborted w who step a → IsAborted w who step b → a ≡ b
 one_aborter w who step a b x y =
-    let t : x.t ≡ y.t = some_same x.t y.t (sym x.out.there ∙ y.out.there) in
-    let op : x.op ≡ y.op = some_same x.op y.op (sym x.op_there ∙ ap (λ (u : Ticket). fin.get w.ops u.op) t ∙ y.op_there) in
-    some_same a b (sym x.by_is ∙ ap (λ (o : Op). o.aborted) op ∙ y.by_is)
+    let t : x.t ≡ y.t = same_Some x.t y.t (sym x.out.there ∙ y.out.there) in
+    let op : x.op ≡ y.op = same_Some x.op y.op (sym x.op_there ∙ ap (λ (u : Ticket). fin.get w.ops u.op) t ∙ y.op_there) in
+    same_Some a b (sym x.by_is ∙ ap (λ (o : Op). o.aborted) op ∙ y.by_is)
 
 -- ---- what a block tells
 
@@ -111,20 +98,20 @@ pub block_tells : (d : Option ℕ) (plan : Plan) (who : ℕ) (step : Step) (refu
 block_tells d plan who step refusal is = by d refl is
   where
     by_delete : d ≡ None → is_failure step ≡ false → (o : Option ℕ) → aborter plan.ops (fin.get plan.seats who) ≡ o → as_aborted o ≡ Some refusal → Tells d plan who step refusal
-    by_delete none other None a is = absurd (none_some refusal is)
-    by_delete none other (Some op) a is = subst (Tells d plan who step) (some_same (refusals.Aborted op) refusal is) (OfDelete op none (λ w h. aborted_is w plan who step h op other a))
+    by_delete none other None a is = absurd (none-some refusal is)
+    by_delete none other (Some op) a is = subst (Tells d plan who step) (same_Some (refusals.Aborted op) refusal is) (OfDelete op none (λ w h. aborted_is w plan who step h op other a))
 
     by_step : d ≡ None → (b : Bool) → is_failure step ≡ b → (if b then None else as_aborted (aborter plan.ops (fin.get plan.seats who))) ≡ Some refusal → Tells d plan who step refusal
-    by_step none true other is = absurd (none_some refusal is)
+    by_step none true other is = absurd (none-some refusal is)
     by_step none false other is = by_delete none other (aborter plan.ops (fin.get plan.seats who)) refl is
 
     by : (o : Option ℕ) → d ≡ o → block_of o plan who step ≡ Some refusal → Tells d plan who step refusal
-    by (Some place) e is = subst (Tells d plan who step) (some_same (refusals.Deposed place) refusal is) (OfSwap place e)
+    by (Some place) e is = subst (Tells d plan who step) (same_Some (refusals.Deposed place) refusal is) (OfSwap place e)
     by None e is = by_step e (is_failure step) refl is
 
 -- without one no record swap has failed
 pub block_none : (d : Option ℕ) (plan : Plan) (who : ℕ) (step : Step) → block_of d plan who step ≡ None → d ≡ None
-block_none (Some place) plan who step is = absurd (none_some (refusals.Deposed place) (sym is))
+block_none (Some place) plan who step is = absurd (none-some (refusals.Deposed place) (sym is))
 block_none None plan who step is = refl
 
 -- it calls no container, and tells no failure

@@ -139,6 +139,7 @@ tests_step f size w m a h = subst AreTests (sym (caller_goes f w m)) (tests_afte
 
     own : (name : BlobName) → m.entry.step ≡ ReadStep (CommitTest name) → m.entry.reply ≡ WasDone → IsTest name
     own name step reply = elim a.answered [
-      | inl alive ↦ allowed_own f size w m.entry.who name m.image (subst (λ (r : Reply). Allows f size w m.entry.who (ReadStep (CommitTest name)) r m.image) reply (subst (λ (s : Step). Allows f size w m.entry.who s m.entry.reply m.image) step alive.1))
+      | inl alive ↦
+          allowed_own f size w m.entry.who name m.image (subst (λ (r : Reply). Allows f size w m.entry.who (ReadStep (CommitTest name)) r m.image) reply (subst (λ (s : Step). Allows f size w m.entry.who s m.entry.reply m.image) step alive.1))
       | inr dead ↦ absurd (refused dead.refusal (sym reply ∙ dead.refused))
     ]

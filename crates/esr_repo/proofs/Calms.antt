@@ -1,5 +1,5 @@
 -- Where the container tells that no call of it fails, after a step.
-use Rattle.std.proofs.Common.{◌≡◌, ℕ, ◌+◌, ◌^◌, ◌<◌, ◌≤◌, Bool, true, false, true≢false, List, [], ◌∷◌, ◌++◌, length, Option, Some, IfSome, IsTrue, Err, cond, refl, sym, ap, ◌∙◌, subst, inl, inr, arith, length-append}
+use Rattle.std.proofs.Common.{◌≡◌, ◌⊎◌, ℕ, ◌+◌, ◌^◌, ◌<◌, ◌≤◌, Bool, true, false, true≢false, List, [], ◌∷◌, ◌++◌, length, Option, Some, IfSome, IsTrue, Err, cond, refl, sym, ap, ◌∙◌, subst, inl, inr, arith, length-append, append-nil}
 use Rattle.std.proofs.lemmas.List.Sums.{sum_by-cons}
 use Rattle.esr_model.specs.Values.{Has}
 use Rattle.esr_model.specs.Image.{Image}
@@ -40,6 +40,27 @@ some_sure sure n h below = omega arith
 longer : (es : List Entry) (e : Entry) → length (es ++ e ∷ []) ≡ length es + 1
 longer es e = length-append es (e ∷ [])
 
+-- ---- fronts
+
+no_front : (front back : List Entry) → ◌≡◌ {A = List Entry} [] (front ++ back) → front ≡ []
+no_front [] back is = refl
+no_front (x ∷ front) back is = absurd cc
+
+-- a front is all of it, or one of what was there before the last
+last_or : (es : List Entry) (e : Entry) (front back : List Entry) → es ++ e ∷ [] ≡ front ++ back → (front ≡ es ++ e ∷ []) ⊎ ((more : List Entry) × (es ≡ front ++ more))
+last_or es e [] back is = inr (es, refl)
+last_or [] e (x ∷ front) back is =
+    let head : e ≡ x = cc in
+    let rest : ◌≡◌ {A = List Entry} [] (front ++ back) = cc in
+    inl (ap (λ (l : List Entry). x ∷ l) (no_front front back rest) ∙ ap (λ (y : Entry). y ∷ []) (sym head))
+last_or (y ∷ es) e (x ∷ front) back is =
+    let head : y ≡ x = cc in
+    let rest : es ++ e ∷ [] ≡ front ++ back = cc in
+    elim (last_or es e front back rest) [
+      | inl all ↦ inl (ap (λ (l : List Entry). x ∷ l) all ∙ ap (λ (z : Entry). z ∷ (es ++ e ∷ [])) (sym head))
+      | inr earlier ↦ inr (earlier.0, ap (λ (z : Entry). z ∷ es) head ∙ ap (λ (l : List Entry). x ∷ l) earlier.1)
+    ]
+
 -- ---- after a step
 
 module _ {quiet : Bool} (before : ℕ) {es mid es' : List Entry} {e : Entry} (h : IsCalm quiet before es) (p : Pushed es mid es' e) (after : ℕ) where
@@ -51,12 +72,20 @@ module _ {quiet : Bool} (before : ℕ) {es mid es' : List Entry} {e : Entry} (h 
 
   -- what was so before one entry more
   was : quiet ≡ true → length (es ++ e ∷ []) ≤ 2 ^ 41 → (fault_entries es ≡ 0) × (2 ^ 41 ≤ before + length es)
-  was is_quiet short = h is_quiet (one_less (length es) (few short))
+  was is_quiet short = let less : length es ≤ 2 ^ 41 = one_less (length es) (few short) in ((h is_quiet).0 es [] (sym (append-nil es)) less, (h is_quiet).1 less)
+
+  short_all : (front : List Entry) → front ≡ es ++ e ∷ [] → length front ≤ 2 ^ 41 → length (es ++ e ∷ []) ≤ 2 ^ 41
+  short_all front all short = subst (λ (l : List Entry). length l ≤ 2 ^ 41) all short
 
   goes : is_fault e.reply ≡ false → before ≤ after + 1 → IsCalm quiet after (es ++ e ∷ [])
-  goes none spent is_quiet short = (
-    none_more (fault_entries es) (fault_entries (es ++ e ∷ [])) (entries_more es e false none) (was is_quiet short).0,
-    subst (λ (n : ℕ). 2 ^ 41 ≤ after + n) (sym (longer es e)) (still_sure before after (length es) (was is_quiet short).1 spent),
+  goes none spent is_quiet = (
+    (λ front back is short. elim (last_or es e front back is) [
+      | inl all ↦
+          subst (λ (l : List Entry). fault_entries l ≡ 0) (sym all)
+          (none_more (fault_entries es) (fault_entries (es ++ e ∷ [])) (entries_more es e false none) (was is_quiet (short_all front all short)).0)
+      | inr earlier ↦ (h is_quiet).0 front earlier.0 earlier.1 short
+    ]),
+    (λ short. subst (λ (n : ℕ). 2 ^ 41 ≤ after + n) (sym (longer es e)) (still_sure before after (length es) (was is_quiet short).1 spent)),
   )
 
   -- an entry that tells no failure, after one call at most
@@ -67,7 +96,13 @@ module _ {quiet : Bool} (before : ℕ) {es mid es' : List Entry} {e : Entry} (h 
   one_sure is_quiet short = some_sure before (length es) (was is_quiet short).1 (one_below (length es) (few short))
 
   fails : (failed : Bool) → Serves before after failed → failed ≡ true → IsCalm quiet after (es ++ e ∷ [])
-  fails failed serves has is_quiet short = absurd (true≢false (sym has ∙ serves.sure (one_sure is_quiet short)))
+  fails failed serves has is_quiet = (
+    (λ front back is short. elim (last_or es e front back is) [
+      | inl all ↦ absurd (true≢false (sym has ∙ serves.sure (one_sure is_quiet (short_all front all short))))
+      | inr earlier ↦ (h is_quiet).0 front earlier.0 earlier.1 short
+    ]),
+    (λ short. absurd (true≢false (sym has ∙ serves.sure (one_sure is_quiet short)))),
+  )
 
   -- a call fails only where no call is sure
   pub calm_failed : (failed : Bool) → Serves before after failed → failed ≡ true → IsCalm quiet after es'
@@ -83,8 +118,12 @@ calm_wanting {T} {quiet} {old} {es} h new mid reserved ok may error is c =
 -- ---- the beginning
 
 pub calm_begun : (quiet : Bool) (sure : ℕ) → (quiet ≡ true → 2 ^ 41 ≤ sure) → IsCalm quiet sure []
-calm_begun quiet sure h is_quiet short = (refl, all_sure sure (h is_quiet))
+calm_begun quiet sure h is_quiet = ((λ front back is short. none_in front back is), (λ short. all_sure sure (h is_quiet)))
   where
+    none_in : (front back : List Entry) → ◌≡◌ {A = List Entry} [] (front ++ back) → fault_entries front ≡ 0
+    none_in [] back is = refl
+    none_in (x ∷ front) back is = absurd cc
+
     all_sure : (n : ℕ) → 2 ^ 41 ≤ n → 2 ^ 41 ≤ n + 0
     all_sure n enough = omega arith
 
@@ -95,7 +134,7 @@ pub sure_now : (quiet : Bool) (l : Look) (clock : ℕ) (es : List Entry) (seen :
 sure_now quiet l clock es seen h view is_quiet below =
     let same : length seen ≡ length es = sym (ap length view) ∙ length-log (image_at l) clock es in
     let short : length es < 2 ^ 41 = subst (λ (n : ℕ). n < 2 ^ 41) same below in
-    some_sure l.sure (length es) (h is_quiet (within (length es) short)).1 short
+    some_sure l.sure (length es) ((h is_quiet).1 (within (length es) short)) short
   where
     within : (n : ℕ) → n < 2 ^ 41 → n ≤ 2 ^ 41
     within n h = omega arith
@@ -138,4 +177,4 @@ pub never_failed : (quiet : Bool) (l : Look) (clock : ℕ) (es : List Entry) (se
 never_failed quiet l clock es seen h view is_quiet short m has failed =
     let same : length seen ≡ length es = sym (ap length view) ∙ length-log (image_at l) clock es in
     let few : length es ≤ 2 ^ 41 = subst (λ (n : ℕ). n ≤ 2 ^ 41) same short in
-    none_counted es m.entry (h is_quiet few).0 (in_history (image_at l) clock es m (subst (λ (log : List Moment). Has log m) (sym view) has)) failed
+    none_counted es m.entry ((h is_quiet).0 es [] (sym (append-nil es)) few) (in_history (image_at l) clock es m (subst (λ (log : List Moment). Has log m) (sym view) has)) failed

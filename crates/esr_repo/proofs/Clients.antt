@@ -163,7 +163,8 @@ module _ (f : Formats) (size : ℕ) (w : World) (of_ops : AreOfOps w) (h : Tells
 
   own_commit : (m : Moment) → m.entry.who ≡ 0 → Allowed f size w m → (name : BlobName) → m.entry.step ≡ ReadStep (CommitTest name) → m.entry.reply ≡ WasDone → HasDrawn w.caller
   own_commit m who a name step reply = elim a.answered [
-    | inl alive ↦ drawn_by (subst (λ (k : ℕ). Allows f size w k (ReadStep (CommitTest name)) WasDone m.image) who (subst (λ (r : Reply). Allows f size w m.entry.who (ReadStep (CommitTest name)) r m.image) reply (subst (λ (s : Step). Allows f size w m.entry.who s m.entry.reply m.image) step alive.1)))
+    | inl alive ↦ drawn_by (subst (λ (k : ℕ). Allows f size w k (ReadStep (CommitTest name)) WasDone m.image) who
+        (subst (λ (r : Reply). Allows f size w m.entry.who (ReadStep (CommitTest name)) r m.image) reply (subst (λ (s : Step). Allows f size w m.entry.who s m.entry.reply m.image) step alive.1)))
     | inr dead ↦ absurd (refused dead.refusal (sym reply ∙ dead.refused))
   ]
     where
@@ -210,7 +211,8 @@ own_step f size w m who of_ops a own h =
     anew new e has = subst (λ (entries : List Entry). Has entries e) none has
       where
         none : entries_by (m.entry ∷ w.entries) 0 ≡ []
-        none = ap (λ (k : ℕ). entries_by (record { who = k; step = m.entry.step; reply = m.entry.reply } ∷ w.entries) 0) who ∙ ap (λ (b : Bool). if b then [] else record { who = 0; step = m.entry.step; reply = m.entry.reply } ∷ entries_by w.entries 0) new
+        none = ap (λ (k : ℕ). entries_by (record { who = k; step = m.entry.step; reply = m.entry.reply } ∷ w.entries) 0) who
+            ∙ ap (λ (b : Bool). if b then [] else record { who = 0; step = m.entry.step; reply = m.entry.reply } ∷ entries_by w.entries 0) new
 
     uncounted : (reply : Reply) → is_counted reply ≡ false → caller_after f w.caller 0 m.entry.step reply m.image ≡ w.caller
     uncounted (Refused (DeposedAt place)) is = go m.entry.step

@@ -1,8 +1,7 @@
 -- The infos of the snapshots that a delete or cleanup leaves are those of the root on which it settles.
-use Rattle.std.proofs.Common.{◌≡◌, ◌⊎◌, ℕ, Bool, true, false, List, [], ◌∷◌, map, Some, refl, sym, ap, ◌∙◌, subst, inl, inr}
-use Rattle.std.specs.Prelude.{filter, ◌||◌}
-use Rattle.std.specs.List.{list_any}
-use Rattle.std.proofs.lemmas.Bool.{eqb-true, eq-eqb, cond-true, cond-false, cases_Bool}
+use Rattle.std.proofs.Common.{◌≡◌, ℕ, Bool, true, false, List, map, Some, refl, sym, ap, ◌∙◌, subst, inl, inr}
+use Rattle.std.specs.Prelude.{filter}
+use Rattle.std.proofs.lemmas.Bool.{eqb-true, eq-eqb}
 use Rattle.std.specs.Cmp.{nat_cmp_total}
 use Rattle.std.specs.FinMap.{nat_cmp-IsAntisymmetric}
 use Rattle.std.specs.FinMap as fin
@@ -15,13 +14,15 @@ use Rattle.esr_core.specs.Tracked.{Tracked}
 use Rattle.esr_core.specs.Entry.{PruneStep, SettlePruned, Moment}
 use Rattle.esr_core.specs.Allowed.{AreIndicesIn, NoDeleting}
 use Rattle.esr_core.specs.Laws.Maps.{get_same, get_other, split}
-use Rattle.esr_model.specs.Lists.{Has-map, Has-mapped}
+use Rattle.esr_model.specs.Lists.{Has-map, Has-mapped, Has-filter, filter-Has}
 use Rattle.esr_core.specs.Laws.DeleteRoots.{left_has, left_of, uuid_was, uuid_left, index_was, index_left, renewed_snapshots, renewed_index_was, renewed_index}
 use Rattle.esr_root.specs.Ids.{same_id}
 use Rattle.esr_root.specs.Snaps.{lists}
 use Rattle.esr_root.specs.Root.{Root}
 use Rattle.esr_root.specs.declared.snaps.RootSnap.{RootSnap as CodeSnap}
 use Rattle.esr_meta.specs.Info.{Info}
+use Rattle.esr_core.specs.Laws.Tests.{any_of}
+use Rattle.esr_core.specs.Laws.CleanupReach.{any_was}
 use Rattle.esr_formats.specs.Refs.{ref_of_code}
 use Rattle.esr_formats.specs.Roots.{root_of, root_snap_of}
 use Rattle.esr_desk.specs.Start.{Start, formats_of, world_of, ticket_of}
@@ -32,56 +33,7 @@ use Rattle.esr_repo.specs.Grown.{out_is}
 use Rattle.esr_repo.specs.DeleteWorld.{settle, delete_world, delete_is}
 use Rattle.esr_repo.proofs.InfosStay.{KeepsWork, made_stays, told_stays}
 use Rattle.esr_repo.proofs.Repos.{infos_aside}
-
--- ---- members
-
-either : (a b : Bool) → (a || b) ≡ true → (a ≡ true) ⊎ (b ≡ true)
-either true b h = inl refl
-either false b h = inr h
-
-any_has : {A : Type 0} (p : A → Bool) (xs : List A) → list_any p xs ≡ true → (x : A) × Has xs x × (p x ≡ true)
-any_has p [] e = absurd cc
-any_has p (y ∷ ys) e = elim (either (p y) (list_any p ys) e) [
-  | inl here ↦ (y, inl refl, here)
-  | inr later ↦ let found = any_has p ys later in (found.0, inr found.1, found.2)
-]
-
-any_of : {A : Type 0} (p : A → Bool) (xs : List A) (x : A) → Has xs x → p x ≡ true → list_any p xs ≡ true
-any_of p [] x m e = absurd m
-any_of p (y ∷ ys) x (inl same) e = let own : p y ≡ true = ap p same ∙ e in rw own refl
-any_of p (y ∷ ys) x (inr m) e = elim (cases_Bool (p y)) [
-  | inl b ↦ rw b refl
-  | inr b ↦ rw b (any_of p ys x m e)
-]
-
-kept_in : {A : Type 0} (p : A → Bool) (xs : List A) (x : A) → Has xs x → p x ≡ true → Has (filter p xs) x
-kept_in p [] x m e = absurd m
-kept_in p (y ∷ ys) x (inl same) e = let own : p y ≡ true = ap p same ∙ e in rw own (inl same)
-kept_in p (y ∷ ys) x (inr m) e = elim (cases_Bool (p y)) [
-  | inl b ↦ rw b (inr (kept_in p ys x m e))
-  | inr b ↦ rw b (kept_in p ys x m e)
-]
-
--- it was there, and passes
-of_kept : {A : Type 0} (p : A → Bool) (xs : List A) (x : A) → Has (filter p xs) x → Has xs x × (p x ≡ true)
-of_kept {A} p [] x m = absurd m
-of_kept {A} p (y ∷ ys) x m = elim (cases_Bool (p y)) [
-  | inl b ↦ elim (subst (λ (l : List A). Has l x) (cond-true _ _ _ b) m) [
-    | inl same ↦ (inl same, ap p (sym same) ∙ b)
-    | inr later ↦ let rest = of_kept p ys x later in (inr rest.0, rest.1)
-  ]
-  | inr b ↦ let rest = of_kept p ys x (subst (λ (l : List A). Has l x) (cond-false _ _ _ b) m) in (inr rest.0, rest.1)
-]
-
-left_unnamed : (uuids : List ℕ) (ss : List RootSnap) (s : RootSnap) → Has (left_snaps uuids ss) s → names_uuid uuids s.uuid ≡ false
-left_unnamed uuids [] s m = absurd m
-left_unnamed uuids (x ∷ ss) s m = elim (cases_Bool (names_uuid uuids x.uuid)) [
-  | inl b ↦ left_unnamed uuids ss s (subst (λ (l : List RootSnap). Has l s) (cond-true _ _ _ b) m)
-  | inr b ↦ elim (subst (λ (l : List RootSnap). Has l s) (cond-false _ _ _ b) m) [
-    | inl e ↦ ap (λ (y : RootSnap). names_uuid uuids y.uuid) (sym e) ∙ b
-    | inr later ↦ left_unnamed uuids ss s later
-  ]
-]
+use Rattle.esr_repo.proofs.Gone.{left_unnamed}
 
 -- ---- over the settle
 
@@ -135,7 +87,7 @@ module _ (s : Start) (log : List Moment) (k : ℕ) (root : Root) (infos : List I
   -- whether a snapshot is listed
   listed_one : (i : Info) → is_listed i ≡ true → (snap : RootSnap) × Has (root_of root).snapshots snap × (i.uuid.number ≡ snap.uuid)
   listed_one i e =
-      let (z, m, same) = any_has (λ (x : CodeSnap). same_id x.uuid i.uuid) root.snapshots e in
+      let (z, m, same) = any_was (λ (x : CodeSnap). same_id x.uuid i.uuid) root.snapshots e in
       (root_snap_of z, Has-map root_snap_of root.snapshots z m, sym (eqb-true z.uuid.number i.uuid.number same))
 
   lists_one : (i : Info) (snap : RootSnap) → Has (root_of root).snapshots snap → i.uuid.number ≡ snap.uuid → is_listed i ≡ true
@@ -185,9 +137,9 @@ module _ (s : Start) (log : List Moment) (k : ℕ) (root : Root) (infos : List I
           let here : Has (root_of root).snapshots snap = subst (λ (r : RootData). Has r.snapshots snap) (sym can.settle.root_is) m in
           let was : Has w.root.snapshots snap = left_has can.uuids w.root.snapshots snap (subst (λ (ss : List RootSnap). Has ss snap) snapshots_are here) in
           let (i, im, same) = old.are.there snap was in
-          (i, kept_in is_listed infos i im (lists_one i snap here same), same);
+          (i, filter-Has is_listed infos i im (lists_one i snap here same), same);
       each = λ i m.
-          let (im, pass) = of_kept is_listed infos i m in
+          let (im, pass) = Has-filter is_listed infos i m in
           record {
             within = subst (λ (r : RootData). AreIndicesIn r i.uuid.number (map ref_of_code i.indices)) can.settle.root_is (indices_stay i im pass);
             generations = λ none. absurd (has_deleting none);
@@ -195,9 +147,9 @@ module _ (s : Start) (log : List Moment) (k : ℕ) (root : Root) (infos : List I
           };
     };
     listed = λ i m.
-        let (snap, sm, same) = listed_one i (of_kept is_listed infos i m).1 in
+        let (snap, sm, same) = listed_one i (Has-filter is_listed infos i m).1 in
         (snap, subst (λ (r : RootData). Has r.snapshots snap) can.settle.root_is sm, same);
-    found = λ i m. let im = (of_kept is_listed infos i m).0 in elim (old.found i im) [ inl made ↦ inl (made_stays (formats_of s) w new i.uuid.number (map ref_of_code i.indices) works_stay made) | inr found ↦ inr (found_now i im found) ];
+    found = λ i m. let im = (Has-filter is_listed infos i m).0 in elim (old.found i im) [ inl made ↦ inl (made_stays (formats_of s) w new i.uuid.number (map ref_of_code i.indices) works_stay made) | inr found ↦ inr (found_now i im found) ];
   }
 
   -- the infos of the snapshots that the new root lists serve the world after the settle

@@ -144,10 +144,6 @@ failed_so error is = ap (λ (x : CallError). has_failed {T = Unit {0}} (Err x)) 
 
 -- ---- after a step
 
--- the count stays
-pub no_later : (n : ℕ) → n ≤ n
-no_later n = omega arith
-
 -- nothing was added
 pub same_faults : {start before : ℕ} {es : List Entry} {d : Option ℕ} (mid : List Entry) (after : ℕ) → IsKeptOfFaults start before es d → before ≤ after → mid ≡ es → IsKeptOfFaults start after mid d
 same_faults {start} {before} {es} {d} mid after k later is =

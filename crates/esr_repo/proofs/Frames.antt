@@ -1,5 +1,5 @@
 -- What each step leaves of the tickets of deletes and cleanups, of the uuids of open ops and of the numbers, and what a step without a record swap leaves.
-use Rattle.std.proofs.Common.{◌≡◌, ℕ, suc, ◌+◌, ◌<◌, ◌≤◌, Bool, true, false, zero, List, [], ◌∷◌, map, Option, Some, None, refl, arith}
+use Rattle.std.proofs.Common.{◌≡◌, ℕ, suc, ◌+◌, ◌<◌, ◌≤◌, Bool, true, false, zero, List, [], ◌∷◌, map, Option, Some, None, refl, arith, true≢false, le_refl, le-add_right}
 use Rattle.std.specs.Prelude.{if◌then◌else◌}
 use Rattle.std.specs.FinMap as fin
 use Rattle.esr_model.specs.Names.{BlobName}
@@ -21,17 +21,8 @@ use Rattle.esr_core.specs.Laws.DeleteAsks.{aborts}
 use Rattle.esr_repo.specs.Log.{asks_container, calls}
 use Rattle.esr_repo.proofs.Coming.{DeletesCome, come_same, come_again, come_settled, come_plain, come_given, come_planned, OpsCome, ops_same, ops_put, ops_new, ops_less, ops_aborted}
 
-swaps : true ≡ false → ⊥
-swaps e = cc
-
-le_next : (n : ℕ) → n ≤ suc n
+pub le_next : (n : ℕ) → n ≤ suc n
 le_next n = omega arith
-
-le_same : (n : ℕ) → n ≤ n
-le_same n = omega arith
-
-le_more : (n m : ℕ) → n ≤ n + m
-le_more n m = omega arith
 
 -- ---- every step
 
@@ -52,11 +43,11 @@ pub record Frame (settles : Option ℕ) (w new : World) : Type 0 where
   pub caller : new.caller ≡ w.caller
 
 frame_same : (b : Option ℕ) (w : World) → Frame b w w
-frame_same b w = record { come = come_same b w.tickets; uuids = ops_same w.ops w.next_id; next = λ t. le_same w.next_id; ops = le_next w.next_op; tickets = le_next w.next_ticket; caller = refl }
+frame_same b w = record { come = come_same b w.tickets; uuids = ops_same w.ops w.next_id; next = λ t. le_refl w.next_id; ops = le_next w.next_op; tickets = le_next w.next_ticket; caller = refl }
 
 -- a ticket is put
 frame_put : (b : Option ℕ) (w : World) (k : ℕ) (v : Ticket) → DeletesCome b w.tickets (fin.insert w.tickets k v) → Frame b w (with_ticket w k v)
-frame_put b w k v come = record { come = come; uuids = ops_same w.ops w.next_id; next = λ t. le_same w.next_id; ops = le_next w.next_op; tickets = le_next w.next_ticket; caller = refl }
+frame_put b w k v come = record { come = come; uuids = ops_same w.ops w.next_id; next = λ t. le_refl w.next_id; ops = le_next w.next_op; tickets = le_next w.next_ticket; caller = refl }
 
 -- the work, the root and the settle of a ticket stay
 abbrev StaysSo : Ticket → Ticket → Type 0
@@ -78,7 +69,7 @@ frame_merged w names d (Some x) =
     record {
       come = come_same None w.tickets;
       uuids = ops_aborted w.ops (aborted_ops w (named_uuids w names) d) d w.next_id (aborts w (named_uuids w names) d);
-      next = λ t. le_same w.next_id;
+      next = λ t. le_refl w.next_id;
       ops = le_next w.next_op;
       tickets = le_next w.next_ticket;
       caller = refl;
@@ -90,8 +81,8 @@ frame_opened w uuids =
     record {
       come = come_same None w.tickets;
       uuids = ops_aborted w.ops (aborted_ops w uuids w.next_op) w.next_op w.next_id (aborts w uuids w.next_op);
-      next = λ t. le_same w.next_id;
-      ops = le_same (suc w.next_op);
+      next = λ t. le_refl w.next_id;
+      ops = le_refl (suc w.next_op);
       tickets = le_next w.next_ticket;
       caller = refl;
     }
@@ -109,8 +100,8 @@ frame_asked w (Snapshot name indices moment) =
     record {
       come = come_same None w.tickets;
       uuids = ops_new w.ops w.next_op (asked_op w name indices moment) w.next_id refl;
-      next = λ t. le_more w.next_id (suc (new_names w indices));
-      ops = le_same (suc w.next_op);
+      next = λ t. le-add_right w.next_id (suc (new_names w indices));
+      ops = le_refl (suc w.next_op);
       tickets = le_next w.next_ticket;
       caller = refl;
     }
@@ -120,19 +111,19 @@ frame_asked w (Clone source name indices moment (Some taken)) =
       come = come_same None w.tickets;
       uuids = ops_new w.ops w.next_op (cloned_op w name moment taken) w.next_id refl;
       next = λ t. le_next w.next_id;
-      ops = le_same (suc w.next_op);
+      ops = le_refl (suc w.next_op);
       tickets = le_next w.next_ticket;
       caller = refl;
     }
 frame_asked w (DeleteSnapshots names) = frame_delete w names
-frame_asked w Cleanup = record { come = come_same None w.tickets; uuids = ops_same w.ops w.next_id; next = λ t. le_same w.next_id; ops = le_same (suc w.next_op); tickets = le_next w.next_ticket; caller = refl }
+frame_asked w Cleanup = record { come = come_same None w.tickets; uuids = ops_same w.ops w.next_id; next = λ t. le_refl w.next_id; ops = le_refl (suc w.next_op); tickets = le_next w.next_ticket; caller = refl }
 frame_asked w (Restore name place) = frame_same None w
 
 -- ---- take
 
 -- a ticket more
 frame_given : (w : World) (v : Ticket) → DeletesCome None w.tickets (fin.insert w.tickets w.next_ticket v) → Frame None w (record w { tickets = fin.insert w.tickets w.next_ticket v; next_ticket = suc w.next_ticket })
-frame_given w v come = record { come = come; uuids = ops_same w.ops w.next_id; next = λ t. le_same w.next_id; ops = le_next w.next_op; tickets = le_same (suc w.next_ticket); caller = refl }
+frame_given w v come = record { come = come; uuids = ops_same w.ops w.next_id; next = λ t. le_refl w.next_id; ops = le_next w.next_op; tickets = le_refl (suc w.next_ticket); caller = refl }
 
 shard_plain : (index number : ℕ) (uuids : List ℕ) (plan : Option Swap) → Shard index number ≡ Deleting uuids plan → ⊥
 shard_plain index number uuids plan e = cc
@@ -140,7 +131,7 @@ shard_plain index number uuids plan e = cc
 drop_plain : (uuids : List ℕ) (plan : Option Swap) → Drop ≡ Deleting uuids plan → ⊥
 drop_plain uuids plan e = cc
 
-final_plain : (info : SnapInfo) (results : List ShardResult) (made : Command) (uuids : List ℕ) (plan : Option Swap) → Finalize info results made ≡ Deleting uuids plan → ⊥
+pub final_plain : (info : SnapInfo) (results : List ShardResult) (made : Command) (uuids : List ℕ) (plan : Option Swap) → Finalize info results made ≡ Deleting uuids plan → ⊥
 final_plain info results made uuids plan e = cc
 
 frame_shard : (w : World) (o : ℕ) (op : Op) (base : Option ℕ) (s : Option ShardWork) → fin.get w.ops o ≡ Some op → Frame None w (taken_shard w o op base s)
@@ -149,15 +140,15 @@ frame_shard w o op base (Some s) there =
     record {
       come = come_plain None w.tickets w.next_ticket (shard_ticket w o op s base) (shard_plain s.ref.id s.number);
       uuids = ops_put w.ops o op (record op { shards = map (given w.next_ticket s.ref.id s.number) op.shards }) w.next_id there refl;
-      next = λ t. le_same w.next_id;
+      next = λ t. le_refl w.next_id;
       ops = le_next w.next_op;
-      tickets = le_same (suc w.next_ticket);
+      tickets = le_refl (suc w.next_ticket);
       caller = refl;
     }
 
 frame_restore_shard : (w : World) (o : ℕ) (r : Restoring) (s : Option RestoreShard) → Frame None w (taken_restore_shard w o r s)
 frame_restore_shard w o r None = frame_same None w
-frame_restore_shard w o r (Some s) = record { come = come_same None w.tickets; uuids = ops_same w.ops w.next_id; next = λ t. le_same w.next_id; ops = le_next w.next_op; tickets = le_same (suc w.next_ticket); caller = refl }
+frame_restore_shard w o r (Some s) = record { come = come_same None w.tickets; uuids = ops_same w.ops w.next_id; next = λ t. le_refl w.next_id; ops = le_next w.next_op; tickets = le_refl (suc w.next_ticket); caller = refl }
 
 frame_restore : (w : World) (o index number : ℕ) (r : Option Restoring) → Frame None w (taken_restore w o index number r)
 frame_restore w o index number None = frame_same None w
@@ -179,7 +170,7 @@ frame_taken f w o GivenCleanup op there = frame_given w (cleaning_ticket w o) (c
 
 -- so many ids are drawn
 frame_drawn_by : (w new : World) (n : ℕ) → Frame None w new → Frame None w (record new { next_id = w.next_id + n })
-frame_drawn_by w new n h = record { come = h.come; uuids = h.uuids; next = λ t. le_more w.next_id n; ops = h.ops; tickets = h.tickets; caller = h.caller }
+frame_drawn_by w new n h = record { come = h.come; uuids = h.uuids; next = λ t. le-add_right w.next_id n; ops = h.ops; tickets = h.tickets; caller = h.caller }
 
 frame_drawn : (w : World) (k n : ℕ) (o : Option Ticket) → fin.get w.tickets k ≡ o → Frame None w (record (with_given w k (λ t. record t { first = w.next_id; drawn = n }) o) { next_id = w.next_id + n })
 frame_drawn w k n o there = frame_drawn_by w (with_given w k (λ t. record t { first = w.next_id; drawn = n }) o) n (frame_change w k (λ t. record t { first = w.next_id; drawn = n }) o there (λ t. (refl, refl, refl)))
@@ -191,7 +182,7 @@ frame_raised w k o there =
 
 frame_settled_by : (f : Formats) (w : World) (k : ℕ) (t : Ticket) → fin.get w.tickets k ≡ Some t → (s : Option Swap) (n : Option ℕ) → Frame (Some k) w (settled_by f w k t s n)
 frame_settled_by f w k t there (Some s) (Some n) =
-    record { come = come_settled w.tickets k t (record t { settled = true }) there refl refl; uuids = ops_less w.ops t.op w.next_id; next = λ h. le_same w.next_id; ops = le_next w.next_op; tickets = le_next w.next_ticket; caller = refl }
+    record { come = come_settled w.tickets k t (record t { settled = true }) there refl refl; uuids = ops_less w.ops t.op w.next_id; next = λ h. le_refl w.next_id; ops = le_next w.next_op; tickets = le_next w.next_ticket; caller = refl }
 frame_settled_by f w k t there (Some s) None = frame_same (Some k) w
 frame_settled_by f w k t there None n = frame_same (Some k) w
 
@@ -206,7 +197,7 @@ frame_op w k t v op new completed there same op_there uuid =
     record {
       come = come_again None w.tickets k t v there same.0 same.1 same.2;
       uuids = ops_put w.ops t.op op new w.next_id op_there uuid;
-      next = λ h. le_same w.next_id;
+      next = λ h. le_refl w.next_id;
       ops = le_next w.next_op;
       tickets = le_next w.next_ticket;
       caller = refl;
@@ -243,7 +234,7 @@ frame_dropped w k (Some t) there =
     record {
       come = come_again None w.tickets k t (record t { out = false }) there refl refl refl;
       uuids = ops_less w.ops t.op w.next_id;
-      next = λ h. le_same w.next_id;
+      next = λ h. le_refl w.next_id;
       ops = le_next w.next_op;
       tickets = le_next w.next_ticket;
       caller = refl;
@@ -265,7 +256,7 @@ frame_planned f w k shards (Some t) there = frame_put None w k (planned f shards
 
 frame_pruned_by : (f : Formats) (w : World) (k : ℕ) (t : Ticket) → fin.get w.tickets k ≡ Some t → (s : Option Swap) (n : Option ℕ) → Frame (Some k) w (delete_settled_by f w k t s n)
 frame_pruned_by f w k t there (Some s) (Some n) =
-    record { come = come_settled w.tickets k t (record t { settled = true }) there refl refl; uuids = ops_less w.ops t.op w.next_id; next = λ h. le_same w.next_id; ops = le_next w.next_op; tickets = le_next w.next_ticket; caller = refl }
+    record { come = come_settled w.tickets k t (record t { settled = true }) there refl refl; uuids = ops_less w.ops t.op w.next_id; next = λ h. le_refl w.next_id; ops = le_next w.next_op; tickets = le_next w.next_ticket; caller = refl }
 frame_pruned_by f w k t there (Some s) None = frame_same (Some k) w
 frame_pruned_by f w k t there None n = frame_same (Some k) w
 
@@ -279,7 +270,7 @@ frame_unpruned_by w k t there (Some x) =
     record {
       come = come_again None w.tickets k t (record t { out = false }) there refl refl refl;
       uuids = ops_same w.ops w.next_id;
-      next = λ h. le_same w.next_id;
+      next = λ h. le_refl w.next_id;
       ops = le_next w.next_op;
       tickets = le_next w.next_ticket;
       caller = refl;
@@ -287,7 +278,8 @@ frame_unpruned_by w k t there (Some x) =
 
 frame_unpruned : (w : World) (k : ℕ) (o : Option Ticket) → fin.get w.tickets k ≡ o → Frame None w (delete_failed w k o)
 frame_unpruned w k None there = frame_same None w
-frame_unpruned w k (Some t) there = frame_either None w (with_ticket w k (record t { out = false })) (delete_failed_by w k t (fin.get w.deletes t.op)) (is_stale w t t.work) (frame_ended w k t there) (frame_unpruned_by w k t there (fin.get w.deletes t.op))
+frame_unpruned w k (Some t) there =
+    frame_either None w (with_ticket w k (record t { out = false })) (delete_failed_by w k t (fin.get w.deletes t.op)) (is_stale w t t.work) (frame_ended w k t there) (frame_unpruned_by w k t there (fin.get w.deletes t.op))
 
 frame_prune : (f : Formats) (w : World) (k : ℕ) (prune : Prune) (reply : Reply) (image : Option Image) → Frame (settler (PruneStep prune) k) w (prune_step f w k prune reply image)
 frame_prune f w k (FetchShard name) WasFetched image = frame_change w k (fetching name (told_blob f image name)) (fin.get w.tickets k) refl (fetching_stays name (told_blob f image name))
@@ -304,11 +296,11 @@ frame_prune f w k (DeleteFails why) reply image = frame_unpruned w k (fin.get w.
 frame_told : (w : World) (k : ℕ) (name : BlobName) (bytes : Option Bytes) (q : Option Reader) → Frame None w (read_told w k name bytes q)
 frame_told w k name bytes None = frame_same None w
 frame_told w k name None (Some q) = frame_same None w
-frame_told w k name (Some bytes) (Some q) = record { come = come_same None w.tickets; uuids = ops_same w.ops w.next_id; next = λ t. le_same w.next_id; ops = le_next w.next_op; tickets = le_next w.next_ticket; caller = refl }
+frame_told w k name (Some bytes) (Some q) = record { come = come_same None w.tickets; uuids = ops_same w.ops w.next_id; next = λ t. le_refl w.next_id; ops = le_next w.next_op; tickets = le_next w.next_ticket; caller = refl }
 
 frame_shard_over : (w : World) (k : ℕ) (state : ReadState) (q : Reader) (r : Option Restoring) → Frame None w (shard_over w k state q r)
 frame_shard_over w k state q None = frame_same None w
-frame_shard_over w k state q (Some r) = record { come = come_same None w.tickets; uuids = ops_same w.ops w.next_id; next = λ t. le_same w.next_id; ops = le_next w.next_op; tickets = le_next w.next_ticket; caller = refl }
+frame_shard_over w k state q (Some r) = record { come = come_same None w.tickets; uuids = ops_same w.ops w.next_id; next = λ t. le_refl w.next_id; ops = le_next w.next_op; tickets = le_next w.next_ticket; caller = refl }
 
 frame_over : (w : World) (k : ℕ) (state : ReadState) (q : Option Reader) → Frame None w (read_over w k state q)
 frame_over w k state None = frame_same None w
@@ -324,7 +316,7 @@ frame_reading f w k read reply image = frame_same None w
 
 -- the names that may be removed
 frame_doomed : (w : World) (doomed : List BlobName) → Frame None w (record w { doomed = doomed })
-frame_doomed w doomed = record { come = come_same None w.tickets; uuids = ops_same w.ops w.next_id; next = λ t. le_same w.next_id; ops = le_next w.next_op; tickets = le_next w.next_ticket; caller = refl }
+frame_doomed w doomed = record { come = come_same None w.tickets; uuids = ops_same w.ops w.next_id; next = λ t. le_refl w.next_id; ops = le_next w.next_op; tickets = le_next w.next_ticket; caller = refl }
 
 -- who 0 has no ticket
 frame_read : (f : Formats) (w : World) (k : ℕ) (read : Read) (reply : Reply) (image : Option Image) → Frame None w (read_by f w k read reply image)
@@ -343,7 +335,7 @@ frame_step f w k (AskStep (Snapshot name indices moment)) reply image = frame_as
 frame_step f w k (AskStep (Clone source name indices moment taken)) reply image = frame_asked w (Clone source name indices moment taken)
 frame_step f w k (AskStep (DeleteSnapshots names)) reply image = frame_asked w (DeleteSnapshots names)
 frame_step f w k (AskStep (Restore name place)) (AcceptedRestore o uuid indices) image =
-    record { come = come_same None w.tickets; uuids = ops_same w.ops w.next_id; next = λ t. le_same w.next_id; ops = le_same (suc w.next_op); tickets = le_next w.next_ticket; caller = refl }
+    record { come = come_same None w.tickets; uuids = ops_same w.ops w.next_id; next = λ t. le_refl w.next_id; ops = le_refl (suc w.next_op); tickets = le_next w.next_ticket; caller = refl }
 frame_step f w k (AskStep Cleanup) reply image = frame_asked w Cleanup
 frame_step f w k TakeStep (Gave ticket op unit) image = frame_taken f w op unit (fin.get w.ops op) refl
 frame_step f w k (DrawStep n) reply image = frame_drawn w k n (fin.get w.tickets k) refl
@@ -489,7 +481,7 @@ pub rests_prune : (f : Formats) (w : World) (k : ℕ) (prune : Prune) (reply : R
 rests_prune f w k (FetchShard name) WasFetched image e = rests_change w k (fetching name (told_blob f image name)) (fin.get w.tickets k)
 rests_prune f w k (FetchShard name) reply image e = rests_same w
 rests_prune f w k (PlanShards shards) reply image e = rests_drawn w k (kept_count shards) (planned f shards w.next_id) (fin.get w.tickets k)
-rests_prune f w k SettlePruned reply image e = absurd (swaps e)
+rests_prune f w k SettlePruned reply image e = absurd (true≢false e)
 rests_prune f w k (RemoveDoomed names) reply image e = rests_same w
 rests_prune f w k EndDelete reply image e = rests_change w k (λ t. record t { out = false }) (fin.get w.tickets k)
 rests_prune f w k (DeleteFails why) reply image e = rests_delete_failed w k (fin.get w.tickets k)
@@ -527,16 +519,16 @@ rests_test w name None None = rests_same w
 rests_test w name (Some was) now = rests_same w
 
 rests_step : (f : Formats) (w : World) (k : ℕ) (step : Step) (reply : Reply) (image : Option Image) → swaps_record step ≡ false → Rests w (done_step f w k step reply image)
-rests_step f w k (AskStep (Snapshot name indices moment)) reply image e = absurd (swaps e)
-rests_step f w k (AskStep (Clone source name indices moment taken)) reply image e = absurd (swaps e)
-rests_step f w k (AskStep (DeleteSnapshots names)) reply image e = absurd (swaps e)
-rests_step f w k (AskStep Cleanup) reply image e = absurd (swaps e)
+rests_step f w k (AskStep (Snapshot name indices moment)) reply image e = absurd (true≢false e)
+rests_step f w k (AskStep (Clone source name indices moment taken)) reply image e = absurd (true≢false e)
+rests_step f w k (AskStep (DeleteSnapshots names)) reply image e = absurd (true≢false e)
+rests_step f w k (AskStep Cleanup) reply image e = absurd (true≢false e)
 rests_step f w k (AskStep (Restore name place)) (AcceptedRestore o uuid indices) image e = record { root = refl; deposed = refl }
 rests_step f w k (ReadStep read) reply image e = rests_read f w k read reply image
-rests_step f w k RaiseStep reply image e = absurd (swaps e)
-rests_step f w k SettleStep reply image e = absurd (swaps e)
-rests_step f w k DroppedStep reply image e = absurd (swaps e)
-rests_step f w k ElectStep reply image e = absurd (swaps e)
+rests_step f w k RaiseStep reply image e = absurd (true≢false e)
+rests_step f w k SettleStep reply image e = absurd (true≢false e)
+rests_step f w k DroppedStep reply image e = absurd (true≢false e)
+rests_step f w k ElectStep reply image e = absurd (true≢false e)
 rests_step f w k TakeStep (Gave ticket op unit) image e = rests_taken f w op unit (fin.get w.ops op)
 rests_step f w k (DrawStep n) reply image e = rests_drawn w k n (λ t. record t { first = w.next_id; drawn = n }) (fin.get w.tickets k)
 rests_step f w k (CommitStep name) WasDone image e = rests_change w k (committing name (told_blob f image name)) (fin.get w.tickets k)
@@ -553,16 +545,16 @@ rests_step f w k step reply image e = rests_same w
 rests_fault : (f : Formats) (w : World) (k : ℕ) (step : Step) (image : Option Image) → swaps_record step ≡ false → Rests w (faulted f w k step image)
 rests_fault f w k LatestStep image e = rests_change w k (λ t. record t { tried_latest = true }) (fin.get w.tickets k)
 rests_fault f w k (BeginStep name) image e = rests_either w _ w (is_latest name) (rests_change w k (λ t. record t { tried_latest = true }) (fin.get w.tickets k)) (rests_same w)
-rests_fault f w k (AskStep (Snapshot name indices moment)) image e = absurd (swaps e)
-rests_fault f w k (AskStep (Clone source name indices moment taken)) image e = absurd (swaps e)
-rests_fault f w k (AskStep (DeleteSnapshots names)) image e = absurd (swaps e)
-rests_fault f w k (AskStep Cleanup) image e = absurd (swaps e)
+rests_fault f w k (AskStep (Snapshot name indices moment)) image e = absurd (true≢false e)
+rests_fault f w k (AskStep (Clone source name indices moment taken)) image e = absurd (true≢false e)
+rests_fault f w k (AskStep (DeleteSnapshots names)) image e = absurd (true≢false e)
+rests_fault f w k (AskStep Cleanup) image e = absurd (true≢false e)
 rests_fault f w k (ReadStep (CommitTest name)) image e = rests_test w name (fin.get w.blobs (f.names.text name)) (told_blob f image name)
-rests_fault f w k RaiseStep image e = absurd (swaps e)
-rests_fault f w k SettleStep image e = absurd (swaps e)
-rests_fault f w k DroppedStep image e = absurd (swaps e)
-rests_fault f w k ElectStep image e = absurd (swaps e)
-rests_fault f w k (PruneStep SettlePruned) image e = absurd (swaps e)
+rests_fault f w k RaiseStep image e = absurd (true≢false e)
+rests_fault f w k SettleStep image e = absurd (true≢false e)
+rests_fault f w k DroppedStep image e = absurd (true≢false e)
+rests_fault f w k ElectStep image e = absurd (true≢false e)
+rests_fault f w k (PruneStep SettlePruned) image e = absurd (true≢false e)
 rests_fault f w k step image e = rests_same w
 
 pub rests_answered : (f : Formats) (w : World) (k : ℕ) (step : Step) (reply : Reply) (image : Option Image) → swaps_record step ≡ false → Rests w (answered f w k step reply image)
@@ -585,6 +577,6 @@ no_swap (PruneStep SettlePruned) e = e
 no_swap step e = refl
 
 pub plain_is : (f : Formats) (w : World) (k : ℕ) (step : Step) (reply : Reply) (image : Option Image) → calls step reply ≡ false → IsPlain f w k step reply image
-plain_is f w k step (Refused DepotFault) image e = absurd (swaps e)
+plain_is f w k step (Refused DepotFault) image e = absurd (true≢false e)
 plain_is f w k step (Refused refusal) image e = ByRule refl
 plain_is f w k step reply image e = NoSwap (no_swap step e)

@@ -7,14 +7,14 @@ use Rattle.std.specs.FinMap as fin
 use Rattle.std.proofs.lemmas.Option.{same_Some, none-some}
 use Rattle.std.proofs.lemmas.Bool.{cond-true, cond-false, cases_Bool}
 use Rattle.esr_model.specs.Names.{BlobName, Snap, File, Part}
-use Rattle.esr_model.specs.Values.{Bytes, Has, IndexRef, RootSnap, RootData, SnapInfo, FileEntry, ShardResult, Formats}
-use Rattle.esr_model.specs.Shelf.{Command, names_uuid}
+use Rattle.esr_model.specs.Values.{Bytes, Has, IndexRef, RootSnap, RootData, FileEntry, Formats}
+use Rattle.esr_model.specs.Shelf.{names_uuid}
 use Rattle.esr_model.specs.Image.{Image}
 use Rattle.esr_model.specs.Parts.{part_names}
 use Rattle.esr_model.specs.Finalize.{finalized_root}
 use Rattle.esr_model.specs.Delete.{PrunedShard, left_snaps, left_root, deleted_root, doomed_names, uuids_of}
 use Rattle.esr_model.specs.Cleanup.{cleaned_names}
-use Rattle.esr_core.specs.World.{World, Op, Finalize, Deleting, Swap, Ticket, info_of, record_of}
+use Rattle.esr_core.specs.World.{World, Op, Deleting, Swap, Ticket, info_of, record_of}
 use Rattle.esr_core.specs.Pruning.{doomed_as, doomed_by, dooms}
 use Rattle.esr_core.specs.Entry.{Prune, SettlePruned, Step, SettleStep, PruneStep, DepotFault, Reply, Refused, Moment}
 use Rattle.esr_core.specs.After.{settled_of, delete_settled_by, delete_settled, has_text, fallen, answered, after}
@@ -27,14 +27,15 @@ use Rattle.esr_model.specs.Lists.{Has-append, Has-map}
 use Rattle.esr_core.specs.Laws.DoomNames.{IsDoomed, TheRoot, ASnap, AMeta, AnIndexMeta, AnIndex, AList, APart, doomed_is}
 use Rattle.esr_core.specs.Laws.PartNames.{in_parts}
 use Rattle.esr_meta.specs.Info.{Info}
+use Rattle.esr_core.specs.Laws.Tests.{clash}
+use Rattle.esr_core.specs.Laws.Asides.{block_leaves}
 use Rattle.esr_formats.specs.Refs.{ref_of_code}
 use Rattle.esr_repo.specs.Repo.{PlannedBy, OwnIndices, TookAway, IsPast, Gone, ListsUuid, FoundBy, MadeOrFound}
 use Rattle.esr_repo.specs.Tickets.{AreOfOps}
 use Rattle.esr_repo.proofs.Coming.{Came, WasGiven, Stayed, HasPlanned, HasSettled, DeletesCome, come_same, uuids_same}
-use Rattle.esr_repo.proofs.Frames.{Frame, frame_settled, frame_pruned, frame_answered}
+use Rattle.esr_repo.proofs.Frames.{Frame, frame_settled, frame_pruned, frame_answered, final_plain}
 use Rattle.esr_repo.specs.InfosAfter.{LeavesInfos}
 use Rattle.esr_repo.proofs.InfosStay.{WorksStay, HasSettled as HasFinalized, made_stays, finalized, new_made, settled_root, root_step, works_step}
-use Rattle.esr_repo.proofs.Blocked.{block_stays}
 
 -- ---- the plans
 
@@ -49,7 +50,7 @@ own_step settles w new come own k v uuids s there work = go (come k v uuids (Som
 
 -- ---- what is left of a root
 
-left_unnamed : (uuids : List ℕ) (snaps : List RootSnap) (s : RootSnap) → Has (left_snaps uuids snaps) s → names_uuid uuids s.uuid ≡ false
+pub left_unnamed : (uuids : List ℕ) (snaps : List RootSnap) (s : RootSnap) → Has (left_snaps uuids snaps) s → names_uuid uuids s.uuid ≡ false
 left_unnamed uuids [] s m = absurd m
 left_unnamed uuids (x ∷ snaps) s m = elim (cases_Bool (names_uuid uuids x.uuid)) [
   | inl b ↦ left_unnamed uuids snaps s (subst (λ (l : List RootSnap). Has l s) (cond-true _ _ _ b) m)
@@ -84,9 +85,6 @@ past_by settles w new frame tracked uuid below unopened unlisted =
       ];
     }
 
-not_both : (b : Bool) → b ≡ true → b ≡ false → ⊥
-not_both b p q = cc
-
 -- it was taken away before, but where the step settles
 away_by : (settles : Option ℕ) (w : World) (uuid : ℕ) (v : Ticket) (k : ℕ) (uuids : List ℕ) (plan : Option Swap) (t : Ticket) (before : Option Swap) → fin.get w.tickets k ≡ Some t → t.work ≡ Deleting uuids before
     → v.root ≡ t.root → t.settled ≡ true
@@ -112,7 +110,7 @@ away_was : (settles : Option ℕ) (w new : World) → DeletesCome settles w.tick
 away_was settles w new come uuid a = go (come a.k a.t a.uuids a.plan a.there a.work)
   where
     go : Came settles w.tickets a.k a.t a.uuids a.plan → TookAway w.tickets uuid ⊎ Settled settles w uuid
-    go (WasGiven none unsettled) = absurd (not_both a.t.settled a.settled unsettled)
+    go (WasGiven none unsettled) = absurd (clash a.t.settled a.settled unsettled)
     go (Stayed t there work root settled) = inl (away_by settles w uuid a.t a.k a.uuids a.plan t a.plan there work root (sym settled ∙ a.settled) a.snap a.was a.named a.is)
     go (HasPlanned t before there work root settled made) = inl (away_by settles w uuid a.t a.k a.uuids a.plan t before there work root (sym settled ∙ a.settled) a.snap a.was a.named a.is)
     go (HasSettled mine t there work root) =
@@ -130,9 +128,6 @@ gone_by w new frame tracked root gone uuid a = elim (away_was None w new frame.c
 ]
 
 -- ---- over the settle of a finalization
-
-final_is : (info : SnapInfo) (results : List ShardResult) (made : Command) (uuids : List ℕ) (plan : Option Swap) → Finalize info results made ≡ Deleting uuids plan → ⊥
-final_is info results made uuids plan e = cc
 
 some_number : (a b : ℕ) → Some a ≡ Some b → a ≡ b
 some_number a b e = cc
@@ -172,7 +167,7 @@ module _ (f : Formats) (w : World) (k : ℕ) (tracked : Tracked w) (gone : Gone 
           ])
       | inr now ↦
           let one : now.t ≡ s.t = settled_ticket w k s.t uuid s.may.out.there now in
-          absurd (final_is s.info s.results s.made now.uuids now.plan (sym s.work ∙ ap (λ (x : Ticket). x.work) (sym one) ∙ now.work))
+          absurd (final_plain s.info s.results s.made now.uuids now.plan (sym s.work ∙ ap (λ (x : Ticket). x.work) (sym one) ∙ now.work))
     ]
 
   -- ---- over the settle of a delete
@@ -208,7 +203,7 @@ module _ (f : Formats) (w : World) (k : ℕ) (tracked : Tracked w) (gone : Gone 
         let below : uuid < w.next_id = subst (λ (n : ℕ). n < w.next_id) now.is (tracked.named.root_below.snapshots now.snap was) in
         past_by (Some k) w pruned (frame_pruned f w k (fin.get w.tickets k) refl) tracked uuid below
         (λ o op there same. (tracked.named.unlisted o op now.snap there was).1 (now.is ∙ sym same))
-        (λ snap m same. not_both (names_uuid s.uuids uuid) named (ap (names_uuid s.uuids) (sym same) ∙ is_left snap m))
+        (λ snap m same. clash (names_uuid s.uuids uuid) named (ap (names_uuid s.uuids) (sym same) ∙ is_left snap m))
 
     pub gone_pruned : Gone pruned
     gone_pruned uuid a = elim (away_was (Some k) w pruned (frame_pruned f w k (fin.get w.tickets k) refl).come uuid a) [
@@ -247,7 +242,7 @@ module _ (f : Formats) (size : ℕ) (w : World) (tracked : Tracked w) (own : Own
   gone_step m a = elim a.answered [
     | inl alive ↦ gone_answered m.entry.who m.entry.step m.entry.reply m.image alive.1
     | inr dead ↦ subst (λ (r : Reply). Gone (answered f w m.entry.who m.entry.step r m.image)) (sym dead.refused)
-        (subst Gone (sym (block_stays f w m.entry.who m.entry.step dead.refusal m.image dead.blocks)) gone)
+        (subst Gone (sym (block_leaves f w m.entry.who m.entry.step dead.refusal m.image dead.blocks)) gone)
   ]
 
 -- ---- what deletes and cleanups found
@@ -266,7 +261,7 @@ found_by : (was now : FinMap nat_cmp Ticket) (uuid : ℕ) → DeletesCome None w
 found_by was now uuid come found k v uuids plan there settled work = go (come k v uuids plan there work)
   where
     go : Came None was k v uuids plan → ListsUuid v.root uuid
-    go (WasGiven none unsettled) = absurd (not_both v.settled settled unsettled)
+    go (WasGiven none unsettled) = absurd (clash v.settled settled unsettled)
     go (Stayed t is same root before) = subst (λ (r : RootData). ListsUuid r uuid) (sym root) (found k t uuids plan is (sym before ∙ settled) same)
     go (HasPlanned t old is same root before made) = subst (λ (r : RootData). ListsUuid r uuid) (sym root) (found k t uuids old is (sym before ∙ settled) same)
     go (HasSettled mine t is same root) = absurd (none-some k mine)
@@ -324,7 +319,7 @@ all_left (s ∷ snaps) = ap (λ (l : List RootSnap). s ∷ l) (all_left snaps)
 snap_cleaned : (f : Formats) (t : Ticket) (s : Swap) (snap : RootSnap) → PlannedBy t.root [] s → Has t.root.snapshots snap → Has (cleaned_names f t.raised s.root (s.own ++ t.read) t.listed) (Snap snap.uuid) → ⊥
 snap_cleaned f t s snap planned listed m =
     let has : Has s.root.snapshots snap = subst (λ (l : List RootSnap). Has l snap) (sym (planned_snaps t.root [] s planned ∙ all_left t.root.snapshots)) listed in
-    not_both (names_uuid (uuids_of s.root) snap.uuid)
+    clash (names_uuid (uuids_of s.root) snap.uuid)
     (has_names (uuids_of s.root) snap.uuid (Has-map (λ (z : RootSnap). z.uuid) s.root.snapshots snap has))
     (cleaned_was f t.raised s.root (s.own ++ t.read) t.listed (Snap snap.uuid) m).1
 

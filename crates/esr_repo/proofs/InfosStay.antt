@@ -21,10 +21,9 @@
 -- What these ask of the info:
 --   final_info : info_of x r ≡ info, for the open op x of the ticket and results r of all its shards
 --   info_apart : IsInfo i → AreApart (map ref_of_code i.indices)
-use Rattle.std.proofs.Common.{◌≡◌, ◌≢◌, ◌⊎◌, ℕ, zero, suc, ◌+◌, ◌<◌, ◌≤◌, Bool, true, false, List, [], ◌∷◌, ◌++◌, Option, Some, None, map, refl, sym, ap, ◌∙◌, subst, inl, inr, arith, nat_cmp, true≢false, eq-eqb}
+use Rattle.std.proofs.Common.{◌≡◌, ◌≢◌, ◌⊎◌, ℕ, zero, suc, ◌+◌, ◌<◌, Bool, true, false, List, [], ◌∷◌, ◌++◌, Option, Some, None, map, refl, sym, ap, ◌∙◌, subst, inl, inr, arith, nat_cmp, true≢false, eq-eqb}
 use Rattle.std.specs.Prelude.{if◌then◌else◌}
 use Rattle.std.specs.List.{IsDistinct}
-use Rattle.std.proofs.lemmas.Bool.Decides.{eqb_tells}
 use Rattle.std.specs.Cmp.{nat_cmp_total}
 use Rattle.std.specs.Cmp.Lexicographic.{nat_list_cmp_total}
 use Rattle.std.specs.FinMap.{FinMap, nat_cmp-IsAntisymmetric}
@@ -57,6 +56,7 @@ use Rattle.esr_core.specs.Laws.DoneShards.{done_of as result_of, done_found, don
 use Rattle.esr_core.specs.Laws.NewRoots.{larger_old, larger_new, Suits, finalized_is}
 use Rattle.esr_names.specs.declared.index_ref.IndexRef.{IndexRef as CodeRef}
 use Rattle.esr_meta.specs.Info.{Info, IsInfo}
+use Rattle.esr_core.specs.Laws.RootAgreement.{numbered_has}
 use Rattle.esr_formats.specs.Refs.{ref_of_code}
 use Rattle.esr_formats.specs.Infos.{info_of_code}
 use Rattle.esr_newroot.specs.RefLists.{one_id, ids_distinct, other_later}
@@ -266,7 +266,8 @@ keeps_taken f w below o (GivenFinalize info results) (Some op) = record { root =
 keeps_taken f w below o (GivenFinalize info results) None = keeps_same w
 keeps_taken f w below o GivenDrop op = record { root = refl; works = works_more w.tickets w.next_ticket (plain_ticket w o Drop) below; none = none_more w.tickets w.next_ticket (plain_ticket w o Drop) below }
 keeps_taken f w below o (GivenRestore index number uuid) op = keeps_restore w o index number (fin.get w.restores o)
-keeps_taken f w below o (GivenDelete uuids) op = record { root = refl; works = works_more w.tickets w.next_ticket (plain_ticket w o (Deleting uuids None)) below; none = none_more w.tickets w.next_ticket (plain_ticket w o (Deleting uuids None)) below }
+keeps_taken f w below o (GivenDelete uuids) op =
+    record { root = refl; works = works_more w.tickets w.next_ticket (plain_ticket w o (Deleting uuids None)) below; none = none_more w.tickets w.next_ticket (plain_ticket w o (Deleting uuids None)) below }
 keeps_taken f w below o GivenCleanup op = record { root = refl; works = works_more w.tickets w.next_ticket (cleaning_ticket w o) below; none = none_more w.tickets w.next_ticket (cleaning_ticket w o) below }
 
 -- ---- ends
@@ -285,7 +286,8 @@ keeps_failed_by w k t (Some op) is = record { root = refl; works = works_again w
 
 keeps_failed : (w : World) (k : ℕ) (o : Option Ticket) → fin.get w.tickets k ≡ o → Keeps w (failed_of w k o)
 keeps_failed w k None is = keeps_same w
-keeps_failed w k (Some t) is = keeps_either w (with_ticket w k (record t { out = false })) (failed_by w k t (fin.get w.ops t.op)) (is_stale w t t.work) (keeps_ticket w k t (record t { out = false }) is refl) (keeps_failed_by w k t (fin.get w.ops t.op) is)
+keeps_failed w k (Some t) is =
+    keeps_either w (with_ticket w k (record t { out = false })) (failed_by w k t (fin.get w.ops t.op)) (is_stale w t t.work) (keeps_ticket w k t (record t { out = false }) is refl) (keeps_failed_by w k t (fin.get w.ops t.op) is)
 
 keeps_dropped : (w : World) (k : ℕ) (o : Option Ticket) → fin.get w.tickets k ≡ o → Keeps w (dropped_of w k o)
 keeps_dropped w k None is = keeps_same w
@@ -653,13 +655,6 @@ indices_kept root new info results fins uuid indices apart a =
 pub generations_kept : (root new : RootData) (info : SnapInfo) (results : List ShardResult) → Finalizes root info results new → (indices : List IndexRef) → HaveGenerations root indices → HaveGenerations new indices
 generations_kept root new info results fins indices h r k m below = let (g, at) = h r k m below in generation_kept root new info results fins r.id k g at
 
-numbered_has : (r : IndexRef) (first n k : ℕ) → first ≤ k → k < first + n → Has (numbered r first n) (r, k)
-numbered_has r first zero k low high = absurd (omega (arith, low, high))
-numbered_has r first (suc n) k low high = elim (eqb_tells first k) [
-  | inl h ↦ inl (ap (λ (x : ℕ). (r, x)) h.1)
-  | inr h ↦ inr (let other : first ≢ k = h.1 in numbered_has r (suc first) n k (omega (arith, low, other)) (omega (arith, high)))
-]
-
 -- a shard of an index is a place
 places_has : (refs : List IndexRef) (r : IndexRef) (k : ℕ) → Has refs r → k < r.shards → Has (places refs) (r, k)
 places_has [] r k m below = absurd m
@@ -755,7 +750,18 @@ module _ (f : Formats) (w v : World) (k : ℕ) (i : Info) (tr : Tracked w) (h : 
   pub new_made : WasMade f v i.uuid.number (map ref_of_code i.indices)
   new_made =
       let (u, there, same) = h.works k h.t h.out.there (final_other h.t.work h.info h.results h.made h.work) in
-      record { number = k; t = u; there = there; info = h.info; results = h.results; made = h.made; work = same ∙ h.work; uuid_is = ap (λ (x : SnapInfo). x.uuid) (sym h.code); indices_is = ap (λ (x : SnapInfo). x.indices) (sym h.code); back = h.back }
+      record {
+        number = k;
+        t = u;
+        there = there;
+        info = h.info;
+        results = h.results;
+        made = h.made;
+        work = same ∙ h.work;
+        uuid_is = ap (λ (x : SnapInfo). x.uuid) (sym h.code);
+        indices_is = ap (λ (x : SnapInfo). x.indices) (sym h.code);
+        back = h.back;
+      }
 
   -- the snapshots are one more
   snapshot_was : (snap : RootSnap) → Has v.root.snapshots snap → Has w.root.snapshots snap ⊎ (i.uuid.number ≡ snap.uuid)

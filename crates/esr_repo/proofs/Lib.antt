@@ -17,6 +17,7 @@ pub mod Beginning
 pub mod ReadyUnits
 pub mod Failing
 pub mod Calms
+pub mod Errors
 pub mod InfosStay
 pub mod Gone
 pub mod DeletedInfos

@@ -121,7 +121,8 @@ module _ {old : Look} {s : Start} {clock : ℕ} {es : List Entry} {k : Kept} {d 
       let same : now new ≡ now old = g.1 in
       let text = text_same_image (now old) (now new) same in
       call_made b new e refl tt mid es' p
-      (call_is b new e refl SameImage goes g.0 refl text (ListFails who from (image_now new) m (told_of (now new) (λ blobs. blobs ≡ (world_of s seen).blobs) (λ i q. blobs_are b i (sym same ∙ q)))) (same_cut b (record { entry = e; image = image_now new })))
+      (call_is b new e refl SameImage goes g.0 refl text (ListFails who from (image_now new) m (told_of (now new) (λ blobs. blobs ≡ (world_of s seen).blobs) (λ i q. blobs_are b i (sym same ∙ q))))
+      (same_cut b (record { entry = e; image = image_now new })))
       (idles_same (world_of s seen))
 
   pub list_fault : {T : Type 0} (error : CallError) (step : Step) → error ≡ Failed → step ≡ ListStep from → Called {T = T} old new (λ _. SameImage) SameImage (Err error) → GoesOn s seen who step

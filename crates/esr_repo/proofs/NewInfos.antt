@@ -37,7 +37,8 @@ infos_swapped s log who step tracked plain old h =
     (record {
       are = infos_stay (formats_of s) w (record (swapped_world s log who step) { blobs = w.blobs }) s.tells old root (works_step (formats_of s) w m tracked plain) (none_step (formats_of s) w m tracked plain) (λ i has. inr (λ bytes at. at)) h.are;
       listed = subst (λ (r : RootData). AreListed r old) (sym root) h.listed;
-      found = λ i has. found_stays (formats_of s) w (record (swapped_world s log who step) { blobs = w.blobs }) i.uuid.number (map ref_of_code i.indices) (works_step (formats_of s) w m tracked plain) (plain_come (formats_of s) w who step HasEnded None plain) (h.found i has);
+      found = λ i has. found_stays (formats_of s) w (record (swapped_world s log who step) { blobs = w.blobs }) i.uuid.number (map ref_of_code i.indices)
+          (works_step (formats_of s) w m tracked plain) (plain_come (formats_of s) w who step HasEnded None plain) (h.found i has);
     })
 
 -- ---- one more
@@ -74,7 +75,8 @@ infos_more s log k root info made tracked can present unpruned final old h =
     })
   where
     settled_aside : (f : Formats) (w v : World) (k : ℕ) (i : Info) (blobs : Blobs) → HasSettled f w v k i → HasSettled f w (record v { blobs = blobs }) k i
-    settled_aside f w v k i blobs h = record { t = h.t; out = h.out; unsettled = h.unsettled; present = h.present; info = h.info; results = h.results; made = h.made; work = h.work; root = h.root; works = h.works; none = h.none; code = h.code; apart = h.apart; back = h.back }
+    settled_aside f w v k i blobs h =
+        record { t = h.t; out = h.out; unsettled = h.unsettled; present = h.present; info = h.info; results = h.results; made = h.made; work = h.work; root = h.root; works = h.works; none = h.none; code = h.code; apart = h.apart; back = h.back }
 
 -- ---- all of them
 

@@ -14,13 +14,13 @@ use Rattle.esr_depot.specs.Look.{Look, now}
 use Rattle.esr_depot.specs.Calls.{Change, Stays, Called}
 use Rattle.esr_meta.specs.Info.{Info}
 use Rattle.esr_desk.specs.Start.{Start, formats_of, world_of}
+use Rattle.esr_desk.specs.Made.{world_more}
 use Rattle.esr_repo.specs.Log.{image_of, image_at, calls, ticks, log_of}
 use Rattle.esr_repo.specs.Repo.{Kept, TellsSo, IsRepo}
 use Rattle.esr_repo.specs.Past.{IsPast}
 use Rattle.esr_repo.specs.Whole.{IsWhole}
 use Rattle.esr_repo.specs.Laws.{Laws}
 use Rattle.esr_repo.specs.Begun.{IsBegun}
-use Rattle.esr_repo.specs.Grown.{world_from-append}
 use Rattle.esr_repo.proofs.Logs.{Goes, goes_same, image_now, ticks_rise, ticks_within, ticks-both, log-both, log_same, log_goes, log_stays}
 use Rattle.esr_repo.proofs.Beginning.{begun_repo}
 use Rattle.esr_repo.proofs.BlobCalls.{Before, Made, wanting}
@@ -143,7 +143,7 @@ module _ (laws : Laws) (old new : Look) (s : Start) (clock : ℕ) (past : ℕ �
       world_is =
           ap (λ (l : List Entry). world_of s (log_of old clock l)) whole
           ∙ ap (world_of s) (log-both (image_at old) clock front rest)
-          ∙ world_from-append f s.world (log_of old clock front) (log_of old (ticks clock front) rest)
+          ∙ world_more f s.world (log_of old clock front) (log_of old (ticks clock front) rest)
 
       by : old.since (ticks clock front) i ⊎ Leaves f s.part_size (world_of s seen) (last ∷ []) (image_of i)
           → Leaves f s.part_size (world_of s (log_of old clock front)) (log_of old (ticks clock front) rest ++ last ∷ []) (image_of i)

@@ -1,5 +1,5 @@
 -- An entry of a step that doesn't call the container.
-use Rattle.std.proofs.Common.{◌≡◌, ◌⊎◌, ℕ, true, false, List, [], ◌∷◌, ◌++◌, Option, Some, None, refl, sym, ap, ◌∙◌, subst, inl, inr}
+use Rattle.std.proofs.Common.{◌≡◌, ◌⊎◌, ℕ, true, false, List, [], ◌∷◌, ◌++◌, Option, Some, None, refl, sym, ap, ◌∙◌, subst, inl, inr, true≢false}
 use Rattle.std.specs.Option.{unwrap_or}
 use Rattle.std.specs.FinMap as fin
 use Rattle.esr_model.specs.Values.{ReadsBack}
@@ -12,6 +12,7 @@ use Rattle.esr_core.specs.Past.{IsNewStep}
 use Rattle.esr_core.specs.Tracked.{Tracked}
 use Rattle.esr_depot.specs.Look.{Look}
 use Rattle.esr_meta.specs.Info.{Info}
+use Rattle.esr_core.specs.Laws.Asides.{blobs_stay}
 use Rattle.esr_formats.specs.Clusters.{cluster_kind}
 use Rattle.esr_ops.specs.Plan.{Plan, IsPlanOf}
 use Rattle.esr_desk.specs.declared.refusal.EntryRefusal.{EntryRefusal}
@@ -32,7 +33,7 @@ use Rattle.esr_repo.specs.Grown.{added_ticket, added_reader}
 use Rattle.esr_repo.proofs.Frames.{IsPlain, NoSwap, ByRule, plain_is, rests_answered}
 use Rattle.esr_repo.proofs.Blocked.{unaborted, one_aborter, Tells, OfSwap, OfDelete, block_none}
 use Rattle.esr_repo.proofs.Logs.{goes_same, image_now}
-use Rattle.esr_repo.proofs.Repos.{cluster_is, plan_aside, infos_aside, infos_over, blobs_same, kept_now, steady_now, image_same, tells_now, text_same, added, added_repo}
+use Rattle.esr_repo.proofs.Repos.{cluster_is, plan_aside, infos_aside, infos_over, kept_now, steady_now, image_same, tells_now, text_same, added, added_repo}
 
 -- what the record, the root and the flag are after a step without a call
 record Stays (w new : World) : Type 0 where
@@ -49,17 +50,14 @@ stays_after laws s w m plain = go (plain_is (formats_of s) w m.entry.who m.entry
         record { record_is = laws.record_stays (formats_of s) w m e; root = rests.root; deposed = rests.deposed }
     go (ByRule e) = record { record_is = ap record_of e; root = ap (λ (x : World). x.root) e; deposed = ap (λ (x : World). x.deposed) e }
 
-swaps : true ≡ false → ⊥
-swaps e = cc
-
 -- a step that doesn't ask the container settles nothing
 quiet_leaves : (step : Step) (reply : Reply) → asks_container step ≡ false → LeavesInfos step reply
-quiet_leaves SettleStep reply e = absurd (swaps e)
-quiet_leaves (PruneStep SettlePruned) reply e = absurd (swaps e)
+quiet_leaves SettleStep reply e = absurd (true≢false e)
+quiet_leaves (PruneStep SettlePruned) reply e = absurd (true≢false e)
 quiet_leaves step reply e = tt
 
 noted_leaves : (s : Start) (w : World) (who : ℕ) (step : Step) (reply : Reply) (image : Option Image) → calls step reply ≡ false → (answered (formats_of s) w who step reply image ≡ w) ⊎ LeavesInfos step reply
-noted_leaves s w who step (Refused DepotFault) image e = absurd (swaps e)
+noted_leaves s w who step (Refused DepotFault) image e = absurd (true≢false e)
 noted_leaves s w who step (Refused refusal) image e = inl refl
 noted_leaves s w who step reply image e = inr (quiet_leaves step reply e)
 
@@ -68,7 +66,7 @@ infos_noted : (s : Start) (w : World) (m : Moment) (infos : List Info) → Track
     → Allowed (formats_of s) s.part_size w m
     → HasInfos s w infos → HasInfos s (after (formats_of s) w m) infos
 infos_noted s w m infos tracked tests own of_ops gone plain same allowed h = elim (noted_leaves s w m.entry.who m.entry.step m.entry.reply m.image plain) [
-  | inl e ↦ infos_aside s w (after (formats_of s) w m) infos (ap (λ (x : World). x.root) e) (ap (λ (x : World). x.tickets) e) (blobs_same w m.image same) h
+  | inl e ↦ infos_aside s w (after (formats_of s) w m) infos (ap (λ (x : World). x.root) e) (ap (λ (x : World). x.tickets) e) (blobs_stay w m.image same) h
   | inr leaves ↦ infos_over s w m infos tracked tests own of_ops gone allowed leaves h
 ]
 
@@ -157,7 +155,8 @@ module _ (laws : Laws) (l : Look) (s : Start) (clock : ℕ) (es mid es' : List E
           record {
             cluster = now.1.cluster ∙ sym stays.record_is;
             root = now.1.root ∙ sym stays.root;
-            plan = plan_aside w (blobs_in (image_now l) (world_of s seen).blobs) w.deposed (after (formats_of s) (world_of s seen) entry_moment).caller (after (formats_of s) (world_of s seen) entry_moment).entries k.plan (subst (λ (x : World). IsPlanOf x k.plan) (sym same) now.1.plan);
+            plan = plan_aside w (blobs_in (image_now l) (world_of s seen).blobs) w.deposed (after (formats_of s) (world_of s seen) entry_moment).caller
+                (after (formats_of s) (world_of s seen) entry_moment).entries k.plan (subst (λ (x : World). IsPlanOf x k.plan) (sym same) now.1.plan);
             next = now.1.next ∙ ap (λ (x : World). x.next_id) (sym same);
           },
           infos_noted s (world_of s seen) entry_moment k.infos here.tracked here.tests here.pruning here.of_ops here.gone so_plain (image_same s seen l here) aborted_allowed now.2,
@@ -208,7 +207,8 @@ module _ (laws : Laws) (l : Look) (s : Start) (clock : ℕ) (es mid es' : List E
           record {
             cluster = now.1.cluster ∙ sym stays.record_is;
             root = now.1.root ∙ sym stays.root;
-            plan = plan_aside w (blobs_in (image_now l) (world_of s seen).blobs) w.deposed (after (formats_of s) (world_of s seen) entry_moment).caller (after (formats_of s) (world_of s seen) entry_moment).entries new (subst (IsPlanOf w) (sym new_is) (may.plan_is (image_now l) k.plan now.1.plan));
+            plan = plan_aside w (blobs_in (image_now l) (world_of s seen).blobs) w.deposed (after (formats_of s) (world_of s seen) entry_moment).caller
+                (after (formats_of s) (world_of s seen) entry_moment).entries new (subst (IsPlanOf w) (sym new_is) (may.plan_is (image_now l) k.plan now.1.plan));
             next = may.next_is (image_now l);
           },
           infos_noted s (world_of s seen) entry_moment k.infos here.tracked here.tests here.pruning here.of_ops here.gone may.plain (image_same s seen l here) note_allowed now.2,
@@ -237,7 +237,7 @@ pub refused_answer : (s : Start) (w : World) (who : ℕ) (step : Step) (refusal 
 refused_answer s w who step refusal image plain = by refusal plain
   where
     by : (x : Refusal) → calls step (Refused x) ≡ false → answered (formats_of s) w who step (Refused x) image ≡ w
-    by DepotFault e = absurd (swaps e)
+    by DepotFault e = absurd (true≢false e)
     by x e = refl
 
 pub refused_tickets : (s : Start) (old new : List Moment) (who : ℕ) (step : Step) (refusal : Refusal) → calls step (Refused refusal) ≡ false → Added s old new who step (Refused refusal) → (j : ℕ)

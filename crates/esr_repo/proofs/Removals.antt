@@ -97,7 +97,10 @@ more_read codes k d was texts text less h pushed text_is back = (
       ∙ ap (λ (xs : List Bytes). xs ++ text_of_code (get_or codes k d) ∷ []) h.0
       ∙ sym (map-append text_of_code (take k codes) (get_or codes k d ∷ []))
       ∙ ap (map text_of_code) (sym (take_more codes k d less)),
-  λ other has. elim (Has-append (take k codes) (get_or codes k d) other (subst (λ (xs : List CodeName). Has xs other) (take_more codes k d less) has)) [ inl before ↦ h.1 other before | inr e ↦ subst (λ (x : CodeName). ReadsBack name_kind (name_of x)) e back ],
+  λ other has. elim (Has-append (take k codes) (get_or codes k d) other (subst (λ (xs : List CodeName). Has xs other) (take_more codes k d less) has)) [
+    | inl before ↦ h.1 other before
+    | inr e ↦ subst (λ (x : CodeName). ReadsBack name_kind (name_of x)) e back
+  ],
 )
 
 has_text : (names : List BlobName) (name : BlobName) → Has names name → Has (map name_kind.text names) (name_kind.text name)
@@ -134,7 +137,8 @@ idles_ungone f w k (PruneStep (RemoveDoomed it)) names image h = idles_same w
 idles_ungone f w k step names image h = absurd h
 
 module _ {old : Look} {s : Start} {clock : ℕ} {es : List Entry} {k : Kept} {d : Option ℕ} {seen : List Moment} (b : Before old s clock es k d seen) (new : Look)
-    (who : ℕ) (step : Step) (names : List BlobName) (m : MayRemove s seen who step names) (goes : GoesOn s seen who step) (backs : (name : BlobName) → Has names name → ReadsBack name_kind name) (texts : List Bytes) (named : texts ≡ map name_kind.text names) where
+    (who : ℕ) (step : Step) (names : List BlobName) (m : MayRemove s seen who step names) (goes : GoesOn s seen who step)
+    (backs : (name : BlobName) → Has names name → ReadsBack name_kind name) (texts : List Bytes) (named : texts ≡ map name_kind.text names) where
   has_name : (name : BlobName) → Has names name → Has texts ((formats_of s).names.text name)
   has_name name has = subst (Has texts) (names_text s name) (subst (λ (xs : List Bytes). Has xs (name_kind.text name)) (sym named) (has_text names name has))
 
@@ -198,7 +202,8 @@ module _ {old : Look} {s : Start} {clock : ℕ} {es : List Entry} {k : Kept} {d 
       let is : now new ≡ drop_known (now old) texts = c.done in
       let text = text_less (now new) texts is in
       call_made b new (By WasRemoved) no_swap (removal_leaves step names WasRemoved m.is) mid es' p
-      (call_is b new (By WasRemoved) no_swap (RemoveMay texts) goes (c.passed refl) (removal_asks step names m.is) text (m.removes (image_now new) (tell_of b (now new) text) (told_of (now new) (AreGone s seen names) (all_gone (now new) is))) (remove_cut WasRemoved (image_now new)))
+      (call_is b new (By WasRemoved) no_swap (RemoveMay texts) goes (c.passed refl) (removal_asks step names m.is) text
+      (m.removes (image_now new) (tell_of b (now new) text) (told_of (now new) (AreGone s seen names) (all_gone (now new) is))) (remove_cut WasRemoved (image_now new)))
       (idles_gone (formats_of s) (world_of s seen) who step names (image_now new) m.is)
 
   pub removed_fault : Called {T = Unit {0}} old new (λ _. Removed texts) (RemoveMay texts) (Err Failed) → (mid es' : List Entry) → Pushed es mid es' (By (Refused DepotFault)) → Made old new s clock es es' k d seen (By (Refused DepotFault))

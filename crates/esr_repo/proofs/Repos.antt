@@ -1,5 +1,5 @@
 -- A container with its history, after one more entry.
-use Rattle.std.proofs.Common.{◌≡◌, ℕ, suc, ◌+◌, ◌≤◌, Bool, true, false, List, [], ◌∷◌, ◌++◌, length, map, Option, Some, None, refl, sym, ap, ◌∙◌, subst, inl, inr, arith, length-append}
+use Rattle.std.proofs.Common.{◌≡◌, ℕ, suc, ◌+◌, ◌≤◌, Bool, true, false, List, [], ◌∷◌, ◌++◌, length, map, Option, Some, None, refl, sym, ap, ◌∙◌, subst, inl, inr, arith, length-append, true≢false}
 use Rattle.std.specs.Prelude.{option_map}
 use Rattle.std.specs.Ordering.{nat_cmp}
 use Rattle.std.specs.FinMap.{FinMap}
@@ -58,9 +58,6 @@ names_are s = refl
 
 -- ---- what is kept of a world
 
-both : true ≡ false → ⊥
-both e = cc
-
 -- the plan of a world reads neither its blobs nor what was done
 pub plan_aside : (w : World) (blobs : Blobs) (deposed : Bool) (caller : Caller) (entries : List Entry) (p : Plan) → IsPlanOf w p → IsPlanOf (record w { blobs = blobs; deposed = deposed; caller = caller; entries = entries }) p
 plan_aside w blobs deposed caller entries p h =
@@ -96,11 +93,6 @@ infos_over s w m infos tracked tests own of_ops gone allowed leaves h = record {
   found = λ i has. found_step (formats_of s) w m i.uuid.number (map ref_of_code i.indices) tracked leaves (h.found i has);
 }
 
--- an image with the blobs of the world leaves them
-pub blobs_same : (w : World) (image : Option Image) → SameBlobs w image → blobs_in image w.blobs ≡ w.blobs
-blobs_same w None same = refl
-blobs_same w (Some image) same = same
-
 -- where no record swap has failed, what is kept is that of the world
 pub kept_now : (l : Look) (s : Start) (clock : ℕ) (es : List Entry) (k : Kept) (d : Option ℕ) (seen : List Moment) → IsRepo l s clock es k d → log_of l clock es ≡ seen → IsLive s seen
     → (d ≡ None) × IsKeptOf (world_of s seen) k × HasInfos s (world_of s seen) k.infos
@@ -111,7 +103,7 @@ kept_now l s clock es k d seen r view live = go d refl
 
     go : (o : Option ℕ) → d ≡ o → (d ≡ None) × IsKeptOf (world_of s seen) k × HasInfos s (world_of s seen) k.infos
     go None e = (e, subst (λ v. IsKeptOf (world_of s v) k) view (r.live e).1, subst (λ v. HasInfos s (world_of s v) k.infos) view (r.live e).2)
-    go (Some place) e = absurd (both (sym (r.fallen place e) ∙ alive))
+    go (Some place) e = absurd (true≢false (sym (r.fallen place e) ∙ alive))
 
 -- and what holds of the world in any case
 pub steady_now : (l : Look) (s : Start) (clock : ℕ) (es : List Entry) (k : Kept) (d : Option ℕ) (seen : List Moment) → IsRepo l s clock es k d → log_of l clock es ≡ seen → IsSteady s seen l

@@ -6,6 +6,7 @@ use Rattle.std.specs.Cmp.{eq_by_cmp_equiv}
 use Rattle.std.specs.Cmp.Lexicographic.{slice_cmp, nat_list_cmp_total}
 use Rattle.std.specs.FinMap.{nat_cmp-IsAntisymmetric, slice_cmp-IsAntisymmetric}
 use Rattle.std.specs.FinMap as fin
+use Rattle.std.proofs.lemmas.Option.{same_Some}
 use Rattle.esr_core.specs.Laws.NumberMaps.{some_none, tied}
 use Rattle.esr_model.specs.Values.{Bytes, ReadsBack, Formats}
 use Rattle.esr_model.specs.Uploads.{same_bytes}
@@ -26,6 +27,7 @@ use Rattle.esr_depot.specs.Image.{Image as Held, with_text, swap_known}
 use Rattle.esr_depot.specs.Look.{Look, now}
 use Rattle.esr_depot.specs.Calls.{Passed, Called}
 use Rattle.esr_depot.specs.Changes.{Swapped, SwapMay}
+use Rattle.esr_core.specs.Laws.Asides.{blobs_stay}
 use Rattle.esr_formats.specs.Roots.{root_of}
 use Rattle.esr_formats.specs.Clusters.{cluster_of, cluster_kind}
 use Rattle.esr_ops.specs.Plan.{Plan, IsPlanOf}
@@ -34,12 +36,9 @@ use Rattle.esr_repo.specs.Log.{image_of, asks_container, calls}
 use Rattle.esr_repo.specs.Repo.{Kept, TellsSo, HasInfos, IsSteady}
 use Rattle.esr_repo.specs.May.{CanTell, Same, is_refused, swapped_world, infos_after, MaySwap}
 use Rattle.esr_repo.proofs.Logs.{goes_passed, image_now}
-use Rattle.esr_repo.proofs.Repos.{cluster_is, plan_aside, infos_aside, blobs_same, kept_now, steady_now, can_tell, text_same, added_repo}
+use Rattle.esr_repo.proofs.Repos.{cluster_is, plan_aside, infos_aside, kept_now, steady_now, can_tell, text_same, added_repo}
 use Rattle.esr_repo.proofs.BlobCalls.{Before, Pushed, IsCall, Made, more_is, made, failed_is, held_of, told_of}
 use Rattle.esr_repo.specs.Next.{GoesOn}
-
-some_same : {A : Type 0} (x y : A) → Some x ≡ Some y → x ≡ y
-some_same x y e = cc
 
 -- ---- the steps
 
@@ -183,7 +182,7 @@ was_held old new text h j e = go old refl
     go None n = absurd (some_none j (sym e ∙ h.untold n))
     go (Some i) n =
         let x = h.told i n in
-        let same : x.0 ≡ j = some_same x.0 j (sym x.1 ∙ e) in
+        let same : x.0 ≡ j = same_Some x.0 j (sym x.1 ∙ e) in
         (i, n, subst (λ (y : Held). (y.blobs ≡ i.blobs)) same x.2, subst (λ (y : Held). (y.text ≡ Some text) ⊎ (y.text ≡ i.text)) same x.3)
 
 swapping_tells : (old new : Look) (tells : Bool) (text : Bytes) → TellsSo old tells → Swapping (now old) (now new) text → TellsSo new tells
@@ -230,7 +229,8 @@ pub record Renews (k : Kept) (cluster : Record) (root : Option Root) (left : Opt
 -- ---- the call
 
 module _ {old : Look} {s : Start} {clock : ℕ} {es : List Entry} {k : Kept} {d : Option ℕ} {seen : List Moment} (b : Before old s clock es k d seen) (new : Look)
-    (who : ℕ) (step : Step) (reply : Reply) (cluster : Record) (root : Option Root) (left : Option (List Info)) (info : Option Info) (plan : Option Plan) (next : ℕ) (m : MaySwap s seen who step reply cluster root left info plan next) (goes : GoesOn s seen who step)
+    (who : ℕ) (step : Step) (reply : Reply) (cluster : Record) (root : Option Root) (left : Option (List Info)) (info : Option Info)
+    (plan : Option Plan) (next : ℕ) (m : MaySwap s seen who step reply cluster root left info plan next) (goes : GoesOn s seen who step)
     (text : Bytes) (text_of : text ≡ cluster_kind.text (cluster_of cluster)) (back : ReadsBack cluster_kind (cluster_of cluster)) where
   steady : IsSteady s seen old
   steady = steady_now old s clock es k d seen b.repo b.view
@@ -328,7 +328,7 @@ module _ {old : Look} {s : Start} {clock : ℕ} {es : List Entry} {k : Kept} {d 
   ok_text is image e =
       let x = held_of (now new) image e in
       let y = was_held (now old) (now new) text (swapping_new (now old) (now new) text is) x.0 x.1 in
-      let holds : x.0 ≡ with_text y.0 text = some_same x.0 (with_text y.0 text) (sym x.1 ∙ is ∙ ap (λ (o : Option Held). swap_known o text) y.1) in
+      let holds : x.0 ≡ with_text y.0 text = same_Some x.0 (with_text y.0 text) (sym x.1 ∙ is ∙ ap (λ (o : Option Held). swap_known o text) y.1) in
       ap (λ (z : Image). z.text) (sym x.2) ∙ ap (λ (z : Held). z.text) holds ∙ ap Some (text_up ∙ ap (λ r. (formats_of s).cluster.text r) (sym ok_record))
 
   ok_call : (x : Unit {0}) → Called old new (λ _. Swapped text) (SwapMay text) (Ok x) → IsCall old new s seen ok_entry
@@ -370,7 +370,7 @@ module _ {old : Look} {s : Start} {clock : ℕ} {es : List Entry} {k : Kept} {d 
         },
         subst (HasInfos s (after (formats_of s) was ok_moment)) (sym new_one.infos_new)
             (infos_aside s (record up { blobs = was.blobs }) (after (formats_of s) was ok_moment) (infos_after left info k.infos)
-            (ap (λ (y : World). y.root) ok_world) (ap (λ (y : World). y.tickets) ok_world) (blobs_same was (image_now new) (told_blobs (now new) (swapping_new (now old) (now new) text c.done)))
+            (ap (λ (y : World). y.root) ok_world) (ap (λ (y : World). y.tickets) ok_world) (blobs_stay was (image_now new) (told_blobs (now new) (swapping_new (now old) (now new) text c.done)))
             (m.infos_are k.infos kept.2)),
       ))
       (λ place n. absurd (some_none place (sym n ∙ kept.0))))
@@ -389,7 +389,8 @@ module _ {old : Look} {s : Start} {clock : ℕ} {es : List Entry} {k : Kept} {d 
         left = swap_since (Refused DepotFault) g.0;
       }
 
-  pub swap_fault : (error : CallError) → error ≡ Failed → Called {T = Unit {0}} old new (λ _. Swapped text) (SwapMay text) (Err error) → (mid es' : List Entry) → Pushed es mid es' bad_entry → (place : ℕ) → Made old new s clock es es' k (Some place) seen bad_entry
+  pub swap_fault : (error : CallError) → error ≡ Failed → Called {T = Unit {0}} old new (λ _. Swapped text) (SwapMay text) (Err error) → (mid es' : List Entry) → Pushed es mid es' bad_entry → (place : ℕ)
+      → Made old new s clock es es' k (Some place) seen bad_entry
   swap_fault error is c mid es' p place =
       let more = more_is es mid es' bad_entry p in
       let call = bad_call error is c in

@@ -1,11 +1,12 @@
 -- What holds of all tickets stays over each step.
-use Rattle.std.proofs.Common.{◌≡◌, ◌≢◌, ◌⊎◌, ℕ, suc, ◌<◌, ◌≤◌, Bool, true, false, cond, nat_cmp, List, [], ◌∷◌, Option, Some, None, refl, sym, ap, ◌∙◌, subst, inl, inr, ⊎_elim, true≢false, arith}
+use Rattle.std.proofs.Common.{◌≡◌, ◌≢◌, ◌⊎◌, ℕ, ◌<◌, ◌≤◌, Bool, true, false, cond, nat_cmp, List, [], ◌∷◌, Option, Some, None, refl, sym, ap, ◌∙◌, subst, inl, inr, ⊎_elim, true≢false, arith, le_refl}
 use Rattle.std.specs.Prelude.{if◌then◌else◌, ◌==◌}
 use Rattle.std.proofs.lemmas.Bool.Decides.{eqb_tells}
 use Rattle.std.specs.Ordering.{eq_by_cmp}
 use Rattle.std.specs.Cmp.{nat_cmp_total, eq_by_cmp_equiv}
 use Rattle.std.specs.FinMap.{FinMap, nat_cmp-IsAntisymmetric}
 use Rattle.std.specs.FinMap as fin
+use Rattle.std.proofs.lemmas.Option.{same_Some, none-some}
 use Rattle.esr_core.specs.Laws.NumberMaps.{tied}
 use Rattle.esr_model.specs.Values.{Has, Formats}
 use Rattle.esr_model.specs.Image.{Image}
@@ -24,19 +25,14 @@ use Rattle.esr_desk.specs.Made.{counted_or_before}
 use Rattle.esr_repo.specs.Laws.{Laws}
 use Rattle.esr_repo.specs.Tickets.{AreStale, AreOfOps}
 use Rattle.esr_repo.proofs.Coming.{uuids_same}
+use Rattle.esr_repo.proofs.Frames.{le_next}
 
 -- ---- terms rise
-
-le_same : (n : ℕ) → n ≤ n
-le_same n = omega arith
-
-le_next : (n : ℕ) → n ≤ suc n
-le_next n = omega arith
 
 term_up : (f : Formats) (w : World) (who : ℕ) (step : Step) (new : World) → StepChange f w who step new → w.term ≤ new.term
 term_up f w who step new (Election is) = le_next w.term
 term_up f w who step new (SwapFault is up change) = term_up f w who step up change
-term_up f w who step new other = le_same w.term
+term_up f w who step new other = le_refl w.term
 
 -- ---- stale tickets
 
@@ -100,12 +96,6 @@ stale_step f size w m laws tracked a h k was =
 
 -- ---- ops and tickets as they come
 
-none_some : {A : Type 0} (x : A) → None ≡ Some x → ⊥
-none_some x e = cc
-
-some_same : {A : Type 0} (x y : A) → Some x ≡ Some y → x ≡ y
-some_same x y e = cc
-
 -- what is there after an insertion is the new one, or was there
 key_was : {X : Type 0} (m : FinMap nat_cmp X) (k : ℕ) (v : X) (q : ℕ) (x : X) → fin.get (fin.insert m k v) q ≡ Some x → ((q ≡ k) × (v ≡ x)) ⊎ (fin.get m q ≡ Some x)
 key_was {X} m k v q x e = go (eq_by_cmp nat_cmp q k) refl
@@ -114,7 +104,7 @@ key_was {X} m k v q x e = go (eq_by_cmp nat_cmp q k) refl
     by b is = sym (ap (λ (c : Bool). cond c (Some v) (fin.get m q)) is) ∙ sym (fin.get-insert nat_cmp_total m k v q) ∙ e
 
     go : (b : Bool) → eq_by_cmp nat_cmp q k ≡ b → ((q ≡ k) × (v ≡ x)) ⊎ (fin.get m q ≡ Some x)
-    go true same = inl (nat_cmp-IsAntisymmetric q k (tied (nat_cmp q k) same), some_same v x (by true same))
+    go true same = inl (nat_cmp-IsAntisymmetric q k (tied (nat_cmp q k) same), same_Some v x (by true same))
     go false apart = inr (by false apart)
 
 left_was : {X : Type 0} (m : FinMap nat_cmp X) (k q : ℕ) (x : X) → fin.get (fin.remove m k) q ≡ Some x → fin.get m q ≡ Some x
@@ -124,7 +114,7 @@ left_was {X} m k q x e = go (eq_by_cmp nat_cmp q k) refl
     by b is = sym (ap (λ (c : Bool). cond c None (fin.get m q)) is) ∙ sym (fin.get-remove nat_cmp_total m k q) ∙ e
 
     go : (b : Bool) → eq_by_cmp nat_cmp q k ≡ b → fin.get m q ≡ Some x
-    go true same = absurd (none_some x (by true same))
+    go true same = absurd (none-some x (by true same))
     go false apart = by false apart
 
 abbrev HasOp : FinMap nat_cmp Op → ℕ → Type 0
@@ -141,7 +131,8 @@ ops_come f w who step new (NewDeletion ask ops x aborts clean) o op e = let old 
 ops_come f w who step new (MergedDeletion ask ops d x v aborts there clean failed) o op e = let old = aborts.was o op e in inl (old.0, old.1)
 ops_come f w who step new (NewTicket take t one ops same) o op e = inl (same_ops w.ops ops same o op e)
 ops_come f w who step new (Settlement settle t s n names deletes there swap raised how) o op e = inl (op, left_was w.ops t.op o op e)
-ops_come f w who step new (UnitEnd t x v completed there op_there same) o op e = inl (⊎_elim (λ (here : (o ≡ t.op) × (v ≡ op)). (x, ap (fin.get w.ops) here.0 ∙ op_there)) (λ (was : fin.get w.ops o ≡ Some op). (op, was)) (key_was w.ops t.op v o op e))
+ops_come f w who step new (UnitEnd t x v completed there op_there same) o op e =
+    inl (⊎_elim (λ (here : (o ≡ t.op) × (v ≡ op)). (x, ap (fin.get w.ops) here.0 ∙ op_there)) (λ (was : fin.get w.ops o ≡ Some op). (op, was)) (key_was w.ops t.op v o op e))
 ops_come f w who step new (OpDrop drop t there) o op e = inl (op, left_was w.ops t.op o op e)
 ops_come f w who step new (SwapFault is up change) o op e = ops_come f w who step up change o op e
 ops_come f w who step new other o op e = inl (op, e)
@@ -226,7 +217,7 @@ module _ (f : Formats) (w : World) (tracked : Tracked w) (v : Ticket) where
 -- ---- the op of a ticket that has settled
 
 none_left : {X : Type 0} (m : FinMap nat_cmp X) (k : ℕ) (x : X) → fin.get (fin.remove m k) k ≡ Some x → ⊥
-none_left {X} m k x e = none_some x (sym here ∙ e)
+none_left {X} m k x e = none-some x (sym here ∙ e)
   where
     here : fin.get (fin.remove m k) k ≡ None
     here = fin.get-remove nat_cmp_total m k k ∙ ap (λ (b : Bool). cond b None (fin.get m k)) ((eq_by_cmp_equiv nat_cmp_total).refl k)

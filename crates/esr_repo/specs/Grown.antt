@@ -18,11 +18,8 @@ use Rattle.esr_ops.specs.Plan.{Plan, seat_of, seat_out, reader_seat, reader_out,
 use Rattle.esr_progress.specs.Plans.{seat_there, reader_there as reader_shown}
 use Rattle.esr_desk.specs.Start.{Start, formats_of, world_of, Legal, no_ticket, or_no_ticket, ticket_of}
 use Rattle.esr_desk.specs.Own.{no_reader, or_no_reader, reader_of, caller_of, as_client, own_of}
+use Rattle.esr_desk.specs.Made.{world_more}
 use Rattle.esr_repo.specs.Next.{Added}
-
-pub world_from-append : (f : Formats) (w : World) (xs ys : List Moment) → world_from f w (xs ++ ys) ≡ world_from f (world_from f w xs) ys
-world_from-append f w [] ys = refl
-world_from-append f w (x ∷ xs) ys = world_from-append f (after f w x) xs ys
 
 legal-append : (f : Formats) (n : ℕ) (w : World) (xs ys : List Moment) → IsLegal f n w xs → IsLegal f n (world_from f w xs) ys → IsLegal f n w (xs ++ ys)
 legal-append f n w [] ys h k = k
@@ -33,7 +30,7 @@ pub legal_step : (s : Start) (log : List Moment) (m : Moment) → Legal s log �
 legal_step s log m legal allowed = legal-append (formats_of s) s.part_size s.world log (m ∷ []) legal (allowed, tt)
 
 pub world_step : (s : Start) (log : List Moment) (m : Moment) → world_of s (log ++ m ∷ []) ≡ after (formats_of s) (world_of s log) m
-world_step s log m = world_from-append (formats_of s) s.world log (m ∷ [])
+world_step s log m = world_more (formats_of s) s.world log (m ∷ [])
 
 -- the world after an added entry
 pub added_world : (s : Start) (old new : List Moment) (who : ℕ) (step : Step) (reply : Reply) (a : Added s old new who step reply)

@@ -1,8 +1,7 @@
 //! The steps that call the container for a blob.
-ghost use Rattle.std.specs.Prelude.{◌≡◌, true, false, ◌⊎◌, ◌<◌, ◌^◌, [], length, IsTrue, Option, Some, None, IfOk, IfErr, IfSome};
+ghost use Rattle.std.specs.Prelude.{◌≡◌, true, false, ◌⊎◌, ◌<◌, ◌^◌, [], length, IsTrue, Option, Some, None, IfOk, IfErr, IfSome, OnOk, vec_len, vec_capacity};
 ghost use Rattle.esr_model.specs.Names.{Latest};
 ghost use Rattle.esr_core.specs.Entry.{LatestStep, WasBegun, WasReplaced};
-ghost use Rattle.esr_core.specs.Entry.{Refused as RefusedAs, DepotFault as FaultOf};
 ghost use Rattle.esr_desk.specs.Entries.{step_of};
 ghost use Rattle.esr_core.specs.Allowed.{IsMetadata};
 ghost use Rattle.esr_names.specs.Layout.{IsName};
@@ -14,14 +13,15 @@ ghost use Rattle.esr_desk.specs.declared.refusal.EntryRefusal.TheVariants.{Depot
 ghost use Rattle.esr_depot.specs.declared.depot.Commit.TheVariants.{Exists};
 ghost use Rattle.esr_repo.specs.Next.{IsLive, GoesOn, Did};
 ghost use Rattle.esr_repo.specs.May.{MayBegin, MayCommit, MayReplace, MayFetch};
-ghost use Rattle.esr_repo.specs.Calls.{CommitDid, FetchDid};
+ghost use Rattle.esr_repo.specs.Calls.{with_error, refusal_of_error, CommitDid, FetchDid};
 
 use crate::{Repo, Told};
 use esr_depot::{CallError, Commit, Depot};
 use esr_desk::{Answer, Entry, EntryRefusal, Named, Step, StepRefusal};
 use esr_formats::write_name;
 use esr_names::{BlobName, print_name};
-use std::alloc::Global;
+use esr_seq::Text;
+use std::alloc::{AllocError, Global};
 
 /// A name of the layout reads back from its text.
 fn reads_back(name: &BlobName)
@@ -43,13 +43,43 @@ fn is_metadata(name: BlobName) -> bool
     }
 }
 
-/// The entry of a step in which the container failed.
-pub(crate) fn faulted(who: u64, step: Step) -> Entry
-    ensures { result ≡ record { who = who; step = step_of step; reply = RefusedAs FaultOf } }
+/// The text of a name, and room for one more entry.
+fn prepare(history: &mut Vec<Entry>, alloc: Global, name: &BlobName) -> Result<Text, AllocError>
+    requires { IsName name.now }
+    ensures entries { history.new.items ≡ history.old.items }
+    ensures room { OnOk result (vec_len history.new < vec_capacity history.new) }
+    ensures text { IfOk result (λ text. text ≡ name_kind.text (name_of name.now)) }
+    ensures reads { ReadsBack name_kind (name_of name.now) }
 {
-    let refusal = EntryRefusal::DepotFault;
-    let answer = Answer::Refused { refusal };
-    Entry { who, step, answer }
+    let text = write_name(alloc, name)?;
+    history.reserve(1)?;
+    Ok(text)
+}
+
+/// Why a step is refused whose call gave this error. Where the container failed the history tells it.
+pub(crate) fn refuse_call(
+    history: &mut Vec<Entry>,
+    who: u64,
+    step: Step,
+    error: CallError,
+) -> StepRefusal
+    requires { vec_len history.old < vec_capacity history.old }
+    ensures entries { history.new.items ≡ with_error history.old.items who (step_of step) error }
+    ensures is { result ≡ refusal_of_error error }
+    ensures why { (result ≡ Memory) ⊎ (result ≡ Refused DepotFault) }
+{
+    match error {
+        CallError::Memory => {
+            drop(step);
+            StepRefusal::Memory
+        }
+        CallError::Failed => {
+            let refusal = EntryRefusal::DepotFault;
+            let answer = Answer::Refused { refusal };
+            history.push_reserved(Entry { who, step, answer });
+            StepRefusal::Refused(refusal)
+        }
+    }
 }
 
 impl<D: Depot, K: Told> Repo<D, K> {
@@ -75,28 +105,17 @@ impl<D: Depot, K: Told> Repo<D, K> {
         ensures why { IfErr result (λ e. (e ≡ Memory) ⊎ (e ≡ Refused DepotFault)) }
     {
         Self::laws();
-        let Ok(text) = write_name(alloc, &name) else {
+        let Ok(text) = prepare(&mut self.history, alloc, &name) else {
             drop(step);
             return Err(StepRefusal::Memory);
         };
-        if self.history.reserve(1).is_err() {
-            drop(step);
-            return Err(StepRefusal::Memory);
-        }
         match self.depot.begin(alloc, text.as_str(), room) {
             Ok(stage) => {
                 let answer = Answer::Begun;
                 self.history.push_reserved(Entry { who, step, answer });
                 Ok(Named { name, stage })
             }
-            Err(CallError::Memory) => {
-                drop(step);
-                Err(StepRefusal::Memory)
-            }
-            Err(CallError::Failed) => {
-                self.history.push_reserved(faulted(who, step));
-                Err(StepRefusal::Refused(EntryRefusal::DepotFault))
-            }
+            Err(error) => Err(refuse_call(&mut self.history, who, step, error)),
         }
     }
 
@@ -141,15 +160,7 @@ impl<D: Depot, K: Told> Repo<D, K> {
                 self.history.push_reserved(Entry { who, step, answer });
                 Err(StepRefusal::Refused(refusal))
             }
-            Err(CallError::Memory) => {
-                drop(step);
-                Err(StepRefusal::Memory)
-            }
-            Err(CallError::Failed) => {
-                let failed = faulted(who, step);
-                self.history.push_reserved(failed);
-                Err(StepRefusal::Refused(EntryRefusal::DepotFault))
-            }
+            Err(error) => Err(refuse_call(&mut self.history, who, step, error)),
         }
     }
 
@@ -178,11 +189,7 @@ impl<D: Depot, K: Told> Repo<D, K> {
                 self.history.push_reserved(Entry { who, step, answer });
                 Ok(())
             }
-            Err(CallError::Memory) => Err(StepRefusal::Memory),
-            Err(CallError::Failed) => {
-                self.history.push_reserved(faulted(who, Step::Latest));
-                Err(StepRefusal::Refused(EntryRefusal::DepotFault))
-            }
+            Err(error) => Err(refuse_call(&mut self.history, who, Step::Latest, error)),
         }
     }
 
@@ -204,14 +211,10 @@ impl<D: Depot, K: Told> Repo<D, K> {
         ensures why { IfErr result (λ e. (e ≡ Memory) ⊎ (e ≡ Refused DepotFault)) }
     {
         Self::laws();
-        let Ok(text) = write_name(alloc, &name) else {
+        let Ok(text) = prepare(&mut self.history, alloc, &name) else {
             drop(step);
             return Err(StepRefusal::Memory);
         };
-        if self.history.reserve(1).is_err() {
-            drop(step);
-            return Err(StepRefusal::Memory);
-        }
         match self.depot.fetch(alloc, text.as_str()) {
             Ok(Some(fetch)) => {
                 let answer = Answer::Fetched;
@@ -223,14 +226,7 @@ impl<D: Depot, K: Told> Repo<D, K> {
                 self.history.push_reserved(Entry { who, step, answer });
                 Ok(None)
             }
-            Err(CallError::Memory) => {
-                drop(step);
-                Err(StepRefusal::Memory)
-            }
-            Err(CallError::Failed) => {
-                self.history.push_reserved(faulted(who, step));
-                Err(StepRefusal::Refused(EntryRefusal::DepotFault))
-            }
+            Err(error) => Err(refuse_call(&mut self.history, who, step, error)),
         }
     }
 }

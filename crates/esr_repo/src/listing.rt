@@ -8,10 +8,10 @@ ghost use Rattle.esr_desk.specs.Listing.{page_of};
 ghost use Rattle.esr_desk.specs.Start.{world_of};
 ghost use Rattle.esr_repo.specs.Next.{IsLive, GoesOn, Did};
 
-use crate::calls::faulted;
+use crate::calls::refuse_call;
 use crate::{Repo, Told};
-use esr_depot::{CallError, Depot, Listing};
-use esr_desk::{Answer, Entry, EntryRefusal, Step, StepRefusal};
+use esr_depot::{Depot, Listing};
+use esr_desk::{Answer, Entry, Step, StepRefusal};
 use std::alloc::Global;
 
 impl<D: Depot, K: Told> Repo<D, K> {
@@ -41,14 +41,7 @@ impl<D: Depot, K: Told> Repo<D, K> {
                 self.history.push_reserved(Entry { who, step, answer });
                 Ok(pages.page)
             }
-            Err(CallError::Memory) => {
-                drop(step);
-                Err(StepRefusal::Memory)
-            }
-            Err(CallError::Failed) => {
-                self.history.push_reserved(faulted(who, step));
-                Err(StepRefusal::Refused(EntryRefusal::DepotFault))
-            }
+            Err(error) => Err(refuse_call(&mut self.history, who, step, error)),
         }
     }
 }

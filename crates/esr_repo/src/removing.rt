@@ -10,10 +10,10 @@ ghost use Rattle.esr_desk.specs.declared.refusal.EntryRefusal.TheVariants.{Depot
 ghost use Rattle.esr_repo.specs.Next.{IsLive, GoesOn, Did};
 ghost use Rattle.esr_repo.specs.May.{MayRemove};
 
-use crate::calls::faulted;
+use crate::calls::refuse_call;
 use crate::{Repo, Told};
-use esr_depot::{Depot, Names};
-use esr_desk::{Answer, Entry, EntryRefusal, Step, StepRefusal};
+use esr_depot::{CallError, Depot, Names};
+use esr_desk::{Answer, Entry, Step, StepRefusal};
 use esr_formats::write_name;
 use esr_names::BlobName;
 use std::alloc::{AllocError, Global};
@@ -64,8 +64,8 @@ impl<D: Depot, K: Told> Repo<D, K> {
                 Ok(())
             }
             Err(_) => {
-                self.history.push_reserved(faulted(who, step));
-                Err(StepRefusal::Refused(EntryRefusal::DepotFault))
+                let error = CallError::Failed;
+                Err(refuse_call(&mut self.history, who, step, error))
             }
         }
     }

@@ -15,6 +15,7 @@ use Rattle.std.specs.Ordering.{nat_cmp, match_ordering, eq_by_cmp}
 use Rattle.std.specs.Cmp.{eq_by_cmp_equiv}
 use Rattle.std.specs.Cmp.Lexicographic.{slice_cmp, nat_list_cmp_total}
 use Rattle.std.specs.BTreeSet.{BTreeSet, insert_key, IsOrdered}
+use Rattle.std.proofs.Math.Bool.{or-false}
 use Rattle.esr_names.specs.declared.blob.BlobName.{BlobName as CodeName}
 use Rattle.esr_model.specs.Names.{BlobName}
 use Rattle.esr_model.specs.Values.{Bytes}
@@ -26,10 +27,6 @@ use Rattle.esr_report.specs.Replies.{Cleaned, cleaned_by}
 use Rattle.esr_report.specs.Ends.{holds_text}
 
 -- ---- answers of two tests, of which one holds
-
-or_none : (a : Bool) → (a || false) ≡ a
-or_none true = refl
-or_none false = refl
 
 or_twice : (a b : Bool) → (a || (a || b)) ≡ (a || b)
 or_twice true b = refl
@@ -83,7 +80,7 @@ texts_read names i d old now new key none written text less empty appended moved
 pub texts_all : (names : List CodeName) (i : ℕ) (old now : BTreeSet (Vec ℕ Global)) (text : Bytes) → length names ≤ i
     → (holds_text old text || has_text (map name_of names) text) ≡ (holds_text now text || has_text (map name_of (drop i names)) text)
     → holds_text now text ≡ (holds_text old text || has_text (map name_of names) text)
-texts_all names i old now text past read = sym (read ∙ at_drop_all (λ (ns : List CodeName). holds_text now text || has_text (map name_of ns) text) names i past ∙ or_none (holds_text now text))
+texts_all names i old now text past read = sym (read ∙ at_drop_all (λ (ns : List CodeName). holds_text now text || has_text (map name_of ns) text) names i past ∙ or-false (holds_text now text))
 
 -- ---- how many texts a set has
 
@@ -142,7 +139,7 @@ pub gone_all : (all : List Entry) (k i : ℕ) (now : BTreeSet (Vec ℕ Global)) 
 gone_all all k i now past read = λ at text. here text at
   where
     here : (text : Bytes) → holds_text now text ≡ is_gone all k text
-    here text = sym (read text ∙ at_drop_all (λ (es : List Entry). holds_text now text || is_gone es k text) all i past ∙ or_none (holds_text now text))
+    here text = sym (read text ∙ at_drop_all (λ (es : List Entry). holds_text now text || is_gone es k text) all i past ∙ or-false (holds_text now text))
 
 -- ---- sums
 

@@ -34,6 +34,7 @@ use Rattle.esr_unit.specs.Fetch.{IsRefusedBy, FetchErr}
 use Rattle.esr_unit.specs.Fail.{GivenUp}
 use Rattle.esr_unit.specs.Refusals.{RefusesSo, IsBlock, block_is, last_refused, reader_refused}
 use Rattle.esr_model.specs.Names.{BlobName}
+use Rattle.esr_core.specs.Laws.Tests.{clash}
 use Rattle.esr_restore.specs.Refused.{IsUnitRefused}
 use Rattle.esr_restore.specs.Trouble.{FaultyTarget, IsOfStart, IsTrouble}
 use Rattle.esr_restore.specs.Worked.{Worked}
@@ -66,7 +67,8 @@ start_trouble e count sure s log who trouble h = absurd h
 
 -- ---- what shows the end
 
-module _ {S F H T : Type 0} (e : Evidence S F H T) (count : ℕ) (sure : Bool) (s : Start) (log : List Moment) (who : ℕ) (trouble : Trouble S F) (shown : IsTrouble e count sure s log who trouble) (ending : Ending S F H T) (made : ending ≡ ending_by trouble) where
+module _ {S F H T : Type 0} (e : Evidence S F H T) (count : ℕ) (sure : Bool) (s : Start) (log : List Moment) (who : ℕ)
+    (trouble : Trouble S F) (shown : IsTrouble e count sure s log who trouble) (ending : Ending S F H T) (made : ending ≡ ending_by trouble) where
   as_ending : (other : Ending S F H T) → ending ≡ other → EndingShown hands.Restore e (FaultyTarget count sure) s log who other
   as_ending other is = subst (λ (x : Ending S F H T). EndingShown hands.Restore e (FaultyTarget count sure) s log who x) (sym made ∙ is) shown
 
@@ -83,11 +85,8 @@ module _ {S F H T : Type 0} (e : Evidence S F H T) (count : ℕ) (sure : Bool) (
   pub own_faulty : ending ≡ endings.Own → FaultyTarget count sure
   own_faulty is = as_ending endings.Own is
 
-both : (b : Bool) → b ≡ true → b ≡ false → ⊥
-both b x y = cc (x, y)
-
 unsure : (whole sure : Bool) → (whole ≡ true → sure ≡ true) → sure ≡ false → whole ≡ false
-unsure true sure all is = absurd (both sure (all refl) is)
+unsure true sure all is = absurd (clash sure (all refl) is)
 unsure false sure all is = refl
 
 -- that the target has failed

@@ -14,6 +14,7 @@ use Rattle.esr_source.specs.Begun.{new_files}
 use Rattle.esr_source.specs.declared.address.Address.{Address}
 use Rattle.esr_shardidx.specs.declared.entry.FileEntry.{FileEntry as CodeEntry}
 use Rattle.esr_shardidx.specs.Snapshots.{SnapValue}
+use Rattle.esr_model.specs.Lists.{pairs_length}
 use Rattle.esr_formats.specs.Shards.{entry_of, shard_snap_of}
 use Rattle.esr_ops.specs.declared.unit.Work.{Work}
 use Rattle.esr_ops.specs.declared.unit.Work.TheVariants as works
@@ -29,7 +30,7 @@ use Rattle.esr_restore.specs.Snapped.{IsAt, HasSnap}
 use Rattle.esr_restore.specs.Files.{len_of, sum_files, IsFile, RestoredAll, HasFiles}
 use Rattle.esr_restore.specs.Restored.{HasRestored}
 use Rattle.esr_restore.specs.Pairs.{pairs_map}
-use Rattle.esr_restore.proofs.Pairs.{pairs_of_map, pairs_to_map, pairs_length}
+use Rattle.esr_restore.proofs.Pairs.{pairs_of_map, pairs_to_map}
 
 -- ---- what the files are
 
@@ -50,7 +51,8 @@ module _ (s : Start) (q : Reader) (at : ShardId) (uuid : ℕ) (is_at : IsAt q at
   contents : (es : List CodeEntry) (held : List (Bytes × Bytes)) → AllPairs (IsFile s q at) es held → AllPairs (FileStands (formats_of s) (WasRead q.read) q.index q.number) (map entry_of es) (map (λ (file : Bytes × Bytes). file.1) held)
   contents es held each =
       pairs_to_map (λ (file : Bytes × Bytes). file.1) (FileStands (formats_of s) (WasRead q.read) q.index q.number) (map entry_of es) held
-      (pairs_map (λ (e : FileEntry) (file : Bytes × Bytes). (e.physical ≡ file.0) × FileStands (formats_of s) (WasRead q.read) q.index q.number e file.1) (λ (e : FileEntry) (file : Bytes × Bytes). FileStands (formats_of s) (WasRead q.read) q.index q.number e file.1)
+      (pairs_map (λ (e : FileEntry) (file : Bytes × Bytes). (e.physical ≡ file.0) × FileStands (formats_of s) (WasRead q.read) q.index q.number e file.1)
+      (λ (e : FileEntry) (file : Bytes × Bytes). FileStands (formats_of s) (WasRead q.read) q.index q.number e file.1)
       (λ e file h. h.1) (map entry_of es) held (named es held each))
 
   same_sum : (es : List CodeEntry) (held : List (Bytes × Bytes)) → AllPairs (IsFile s q at) es held → sum_by len_of es ≡ sum_by (λ (file : Bytes × Bytes). length file.1) held

@@ -1,6 +1,5 @@
 -- Histories and tickets of restores that go on.
-use Rattle.std.proofs.Common.{◌≡◌, inr, ⊎_elim, ℕ, List, Option, Some, None, Result, Ok, Err, IfErr, refl, sym, ap, ◌∙◌, subst}
-use Rattle.std.specs.Result.{IsErrAnd}
+use Rattle.std.proofs.Common.{◌≡◌, inr, ⊎_elim, ℕ, List, Option, Some, None, refl, sym, ap, ◌∙◌, subst}
 use Rattle.esr_model.specs.Names.{BlobName}
 use Rattle.esr_model.specs.Values.{Bytes}
 use Rattle.esr_core.specs.World.{Reader}
@@ -16,10 +15,6 @@ use Rattle.esr_unit.specs.Fetch.{IsFetched}
 use Rattle.esr_restore.specs.Worked.{Worked}
 use Rattle.esr_restore.specs.Went.{Went}
 use Rattle.esr_restore.specs.Snapped.{IsAt}
-
-pub passed : {T E : Type 0} (r : Result T E) (P : E → Type 0) (e : E) → IsErrAnd r (λ x. x ≡ e) → P e → IfErr r P
-passed (Ok x) P e is holds = tt
-passed (Err y) P e is holds = subst P (sym is) holds
 
 -- ---- tickets
 

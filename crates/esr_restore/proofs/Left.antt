@@ -1,5 +1,5 @@
 -- The files of a target whose restore wasn't ended well, and which target is given back.
-use Rattle.std.proofs.Common.{◌≡◌, ◌⊎◌, inl, inr, ℕ, zero, suc, false, List, [], ◌∷◌, ◌++◌, append-nil, take, map, Option, Some, None, IfSome, Result, Ok, Err, OnErr, option_map, refl, sym, ap, ◌∙◌, subst}
+use Rattle.std.proofs.Common.{◌≡◌, ◌⊎◌, inl, inr, ℕ, zero, suc, false, List, [], ◌∷◌, ◌++◌, append-nil, take, map, Option, Some, None, IfSome, option_map, refl, sym, ap, ◌∙◌, subst}
 use Rattle.esr_names.specs.declared.blob.ShardId.{ShardId}
 use Rattle.esr_model.specs.Values.{Bytes, FileEntry}
 use Rattle.esr_model.specs.Image.{AllPairs}
@@ -35,10 +35,6 @@ use Rattle.esr_restore.specs.Pairs.{pairs_map}
 use Rattle.esr_restore.proofs.Pairs.{pairs_of_map}
 use Rattle.esr_restore.proofs.Listing.{FirstFiles, stands_more}
 use Rattle.esr_restore.proofs.Finishing.{stands_own}
-
-pub any_err : {T E : Type 0} (result : Result T E) (P : Type 0) → P → OnErr result P
-any_err (Ok x) P holds = tt
-any_err (Err e) P holds = holds
 
 -- ---- the files that were ended
 

@@ -16,14 +16,16 @@ use Rattle.esr_core.specs.World.{Reader}
 use Rattle.esr_core.specs.Restores.{WasRead}
 use Rattle.esr_shardidx.specs.declared.entry.FileEntry.{FileEntry as CodeEntry}
 use Rattle.esr_shardidx.specs.Entries.{is_below, IsEntry}
-use Rattle.esr_shardidx.specs.Snapshots.{SnapValue, AreSnapFiles, IsShardSnap, NamesRise}
+use Rattle.esr_shardidx.specs.Snapshots.{SnapValue, IsShardSnap, NamesRise}
 use Rattle.esr_shardidx.specs.NamesRise.{snap_names_rise}
+use Rattle.esr_shardidx.specs.RoundTrip.{entries_of}
+use Rattle.esr_model.specs.Lists.{AllPairs-snoc}
 use Rattle.esr_formats.specs.Shards.{entry_of, shard_snap_of}
 use Rattle.esr_desk.specs.Start.{Start}
 use Rattle.esr_restore.specs.Worked.{Worked}
 use Rattle.esr_restore.specs.Snapped.{HasSnap, IsListed}
 use Rattle.esr_restore.specs.Files.{IsFile, RestoredFile, RestoredAll}
-use Rattle.esr_restore.specs.Pairs.{pairs_push, pairs_map}
+use Rattle.esr_restore.specs.Pairs.{pairs_map}
 
 -- ---- the entries of a snapshot
 
@@ -37,12 +39,8 @@ has_at [] k e less is = absurd (omega (arith, less))
 has_at (x ∷ es) zero e less is = inl (ap entry_of (sym is))
 has_at (x ∷ es) (suc k) e less is = let fewer : k < length es = omega (arith, less) in inr (has_at es k e fewer is)
 
-entries_from : (before es : List CodeEntry) → AreSnapFiles before es → AllByRecursion IsEntry es
-entries_from before [] h = tt
-entries_from before (e ∷ es) h = (h.0, entries_from (before ++ e ∷ []) es h.3)
-
 pub entry_at : (snap : SnapValue) (k : ℕ) (e : CodeEntry) → IsShardSnap snap → k < length snap.files → e ≡ get_or snap.files k e → IsEntry e
-entry_at snap k e whole less is = all_at IsEntry snap.files k e (entries_from [] snap.files whole.files) less is
+entry_at snap k e whole less is = all_at IsEntry snap.files k e (entries_of [] snap.files whole.files) less is
 
 pub listed_at : (s : Start) (q : Reader) (snap : SnapValue) (k : ℕ) (e : CodeEntry) → HasSnap s q snap → k < length snap.files → e ≡ get_or snap.files k e → IsListed s q e
 listed_at s q snap k e read less is = record { snap = shard_snap_of snap; snap_read = read; listed = has_at snap.files k e less is }
@@ -123,7 +121,7 @@ files_next s a b at es k e files_old files_mid files_new worked less is so one =
     let before = pairs_map (IsFile s a at) (IsFile s b at) (stands_more s a b at worked) (take k es) so.held so.each in
     record {
       held = so.held ++ (e.physical, one.bytes) ∷ [];
-      each = subst (λ (l : List CodeEntry). AllPairs (IsFile s b at) l (so.held ++ (e.physical, one.bytes) ∷ [])) (sym more) (pairs_push (IsFile s b at) (take k es) so.held e (e.physical, one.bytes) before one.stands);
+      each = subst (λ (l : List CodeEntry). AllPairs (IsFile s b at) l (so.held ++ (e.physical, one.bytes) ∷ [])) (sym more) (AllPairs-snoc (IsFile s b at) (take k es) so.held e (e.physical, one.bytes) before one.stands);
       are = one.added ∙ ap (λ (o : Option (List (Bytes × Bytes))). option_map (λ fs. fs ++ (e.physical, one.bytes) ∷ []) o) so.are ∙ added_twice so.held (e.physical, one.bytes) files_old;
     }
 

@@ -1,8 +1,8 @@
 -- No blob is read twice.
-use Rattle.std.proofs.Common.{◌≡◌, inl, inr, ℕ, zero, suc, ◌+◌, ◌-◌, ◌<◌, nat_le, ◌||◌, Bool, true, false, List, [], ◌∷◌, ◌++◌, length, take, get_or, append-nil, append_assoc, refl, sym, ap, ◌∙◌, subst, true≢false, arith}
+use Rattle.std.proofs.Common.{◌≡◌, inl, inr, ℕ, zero, suc, ◌+◌, ◌-◌, ◌<◌, nat_le, true, false, List, [], ◌∷◌, ◌++◌, length, take, get_or, append-nil, append_assoc, refl, sym, ap, ◌∙◌, subst, true≢false, arith}
 use Rattle.std.specs.Prelude.{if◌then◌else◌}
 use Rattle.std.specs.List.{list_any}
-use Rattle.std.proofs.lemmas.Bool.{eq-eqb}
+use Rattle.std.proofs.lemmas.Bool.{eq-eqb, or_parts}
 use Rattle.std.proofs.lemmas.List.{take_more}
 use Rattle.esr_model.specs.Lists.{Has-left}
 use Rattle.esr_names.specs.declared.blob.ShardId.{ShardId}
@@ -50,14 +50,6 @@ file_of name = 0
 file_is : (at : ShardId) (e : CodeEntry) (k : ℕ) → file_of (name_of (part_name at e k)) ≡ e.name.number
 file_is at e k = elim (nat_le e.print.len e.part_size) as (λ b. file_of (name_of (if b then code.Whole at e.name else code.Part at e.name k)) ≡ e.name.number) [ true ↦ refl | false ↦ refl ]
 
-or_left : (a b : Bool) → a || b ≡ false → a ≡ false
-or_left true b e = absurd (true≢false e)
-or_left false b e = refl
-
-or_right : (a b : Bool) → a || b ≡ false → b ≡ false
-or_right true b e = absurd (true≢false e)
-or_right false b e = e
-
 ids_at : (before es : List CodeEntry) (k : ℕ) (d : CodeEntry) → AreSnapFiles before es → k < length es → list_any (has_name (get_or es k d).name) (before ++ take k es) ≡ false
 ids_at before [] k d are less = absurd (omega arith)
 ids_at before (e ∷ es) zero d are less = ap (list_any (has_name e.name)) (append-nil before) ∙ are.2
@@ -66,9 +58,9 @@ ids_at before (e ∷ es) (suc k) d are less = ap (list_any (has_name (get_or es 
 no_twin : (e : CodeEntry) (before : List CodeEntry) (b : CodeEntry) → list_any (has_name e.name) before ≡ false → Has before b → b.name.number ≡ e.name.number → ⊥
 no_twin e [] b free none same = none
 no_twin e (x ∷ before) b free (inl here) same =
-    let id = subst (λ (y : CodeEntry). has_name e.name y ≡ false) here (or_left (has_name e.name x) (list_any (has_name e.name) before) free) in
+    let id = subst (λ (y : CodeEntry). has_name e.name y ≡ false) here (or_parts (has_name e.name x) (list_any (has_name e.name) before) free).0 in
     true≢false (sym (eq-eqb b.name.number e.name.number same) ∙ id)
-no_twin e (x ∷ before) b free (inr later) same = no_twin e before b (or_right (has_name e.name x) (list_any (has_name e.name) before) free) later same
+no_twin e (x ∷ before) b free (inr later) same = no_twin e before b (or_parts (has_name e.name x) (list_any (has_name e.name) before) free).1 later same
 
 has_at : (es : List CodeEntry) (k : ℕ) (e : CodeEntry) → k < length es → e ≡ get_or es k e → Has es e
 has_at [] k e less is = absurd (omega (arith, less))

@@ -1,5 +1,5 @@
 -- Two lists, pair by pair.
-use Rattle.std.proofs.Common.{◌≡◌, suc, List, [], ◌∷◌, length, map, refl, ap}
+use Rattle.std.proofs.Common.{List, [], ◌∷◌, map}
 use Rattle.esr_model.specs.Image.{AllPairs}
 
 pub pairs_of_map : {A B C : Type 0} (f : A → B) (R : B → C → Type 0) (xs : List A) (ys : List C) → AllPairs (λ (x : A) (y : C). R (f x) y) xs ys → AllPairs R (map f xs) ys
@@ -13,9 +13,3 @@ pairs_to_map g R [] [] h = tt
 pairs_to_map g R [] (y ∷ ys) h = absurd h
 pairs_to_map g R (x ∷ xs) [] h = absurd h
 pairs_to_map g R (x ∷ xs) (y ∷ ys) h = (h.0, pairs_to_map g R xs ys h.1)
-
-pub pairs_length : {A B : Type 0} (R : A → B → Type 0) (xs : List A) (ys : List B) → AllPairs R xs ys → length xs ≡ length ys
-pairs_length R [] [] h = refl
-pairs_length R [] (y ∷ ys) h = absurd h
-pairs_length R (x ∷ xs) [] h = absurd h
-pairs_length R (x ∷ xs) (y ∷ ys) h = ap suc (pairs_length R xs ys h.1)

@@ -18,6 +18,7 @@ use Rattle.esr_parts.specs.declared.back.Extent.{Extent}
 use Rattle.esr_source.specs.Begun.{Begun, more}
 use Rattle.esr_shardidx.specs.declared.entry.FileEntry.{FileEntry as CodeEntry}
 use Rattle.esr_shardidx.specs.Parts.{part_count as code_count}
+use Rattle.esr_model.specs.Lists.{AllPairs-snoc}
 use Rattle.esr_formats.specs.Shards.{entry_of}
 use Rattle.esr_desk.specs.Start.{Start}
 use Rattle.esr_desk.specs.Restore.Conditions.{CanRead}
@@ -25,7 +26,7 @@ use Rattle.esr_desk.specs.Restore.Parts.{IsFront}
 use Rattle.esr_restore.specs.Worked.{Worked}
 use Rattle.esr_restore.specs.Snapped.{IsAt, IsListed}
 use Rattle.esr_restore.specs.Parts.{Came, ReadPart, ReadParts}
-use Rattle.esr_restore.specs.Pairs.{pairs_push, pairs_pop, pairs_map}
+use Rattle.esr_restore.specs.Pairs.{pairs_pop, pairs_map}
 use Rattle.esr_restore.specs.PartReads.{is_whole, front_read, told_some, extent_bound, extent_whole, extent_other, IsExact, concat_push, one_false}
 use Rattle.esr_restore.proofs.Reading.{told_read}
 use Rattle.esr_restore.specs.PartSizes.{blob_name, size_of, sizes, sizes_next, sizes_all, same_count, part_listed, part_piece}
@@ -147,7 +148,7 @@ module _ (s : Start) (a b : Reader) (hasher_old hasher_new : Hasher) (begun_old 
       let before = pairs_map (IsFront (WasRead a.read)) (IsFront (WasRead b.read)) (front_more a b worked) (sizes (blob_name at e) e.print.len e.part_size 0 k) so.fronts (so.read tells) in
       let here : IsFront (WasRead b.read) (blob_name at e k, size_of e.print.len e.part_size k) part.front = subst (λ (n : ℕ). IsFront (WasRead b.read) (blob_name at e k, n) part.front) is (part.read tells) in
       subst (λ (l : List (BlobName × ℕ)). AllPairs (IsFront (WasRead b.read)) l (so.fronts ++ part.front ∷ [])) (sym next)
-      (pairs_push (IsFront (WasRead b.read)) (sizes (blob_name at e) e.print.len e.part_size 0 k) so.fronts (blob_name at e k, size_of e.print.len e.part_size k) part.front before here)
+      (AllPairs-snoc (IsFront (WasRead b.read)) (sizes (blob_name at e) e.print.len e.part_size 0 k) so.fronts (blob_name at e k, size_of e.print.len e.part_size k) part.front before here)
 
   grew_next : exact ≡ true → whole ≡ true → begun_new ≡ option_map (more (concat (so.fronts ++ part.front ∷ []))) begun_old
   grew_next before here =
@@ -161,7 +162,7 @@ module _ (s : Start) (a b : Reader) (hasher_old hasher_new : Hasher) (begun_old 
   whole_next : exact ≡ true → whole ≡ true → AllPairs IsExact (sizes (blob_name at e) e.print.len e.part_size 0 (k + 1)) (so.fronts ++ part.front ∷ [])
   whole_next before here =
       subst (λ (l : List (BlobName × ℕ)). AllPairs IsExact l (so.fronts ++ part.front ∷ [])) (sym next)
-      (pairs_push IsExact (sizes (blob_name at e) e.print.len e.part_size 0 k) so.fronts (blob_name at e k, size_of e.print.len e.part_size k) part.front (so.whole before) (part.whole here ∙ is))
+      (AllPairs-snoc IsExact (sizes (blob_name at e) e.print.len e.part_size 0 k) so.fronts (blob_name at e k, size_of e.print.len e.part_size k) part.front (so.whole before) (part.whole here ∙ is))
 
   other_next : (exact ≡ true → whole ≡ true → ⊥) → AllPairs IsExact (sizes (blob_name at e) e.print.len e.part_size 0 (k + 1)) (so.fronts ++ part.front ∷ []) → ⊥
   other_next not_both all =

@@ -108,7 +108,8 @@ read_whole o bytes s old new who name is own =
 
 -- the snapshot was there, and doesn't read: the reader's reason is the first there is
 module _ {S F H T : Type 0} (e : Evidence S F H T) (s : Start) (old new : List Moment) (who : ℕ) (at : ShardId) (uuid : Id) (b read : Bytes) (is_at : IsAt (reader_of s old who) at.index.number at.number uuid.number)
-    (is : reader_of s new who ≡ with_read (ShardSnap at.index.number at.number uuid.number) (told_bytes s b) (reader_of s old who)) (had : HadFetch hands.Restore new who (ShardSnap at.index.number at.number uuid.number) WasFetched) (same : read ≡ b) where
+    (is : reader_of s new who ≡ with_read (ShardSnap at.index.number at.number uuid.number) (told_bytes s b) (reader_of s old who)) (had : HadFetch hands.Restore new who (ShardSnap at.index.number at.number uuid.number) WasFetched)
+    (same : read ≡ b) where
   no_snap : (why : CodeReason) → Fails (reads.Damaged why) (shard_snap_from read) → IsRestoreShown e s new who (OfUnreadable (ShardSnap at.index.number at.number uuid.number) (reason_of why)) shows.Nothing
   unfolding unreadable
   no_snap why fails =

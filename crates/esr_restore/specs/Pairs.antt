@@ -2,12 +2,6 @@
 use Rattle.std.proofs.Common.{List, [], ◌∷◌, ◌++◌}
 use Rattle.esr_model.specs.Image.{AllPairs}
 
-pub pairs_push : {A B : Type 0} (R : A → B → Type 0) (xs : List A) (ys : List B) (x : A) (y : B) → AllPairs R xs ys → R x y → AllPairs R (xs ++ x ∷ []) (ys ++ y ∷ [])
-pairs_push R [] [] x y h last = (last, tt)
-pairs_push R [] (b ∷ ys) x y h last = absurd h
-pairs_push R (a ∷ xs) [] x y h last = absurd h
-pairs_push R (a ∷ xs) (b ∷ ys) x y h last = (h.0, pairs_push R xs ys x y h.1 last)
-
 nothing_more : {A B : Type 0} (R : A → B → Type 0) (ys : List B) (y : B) → AllPairs R [] (ys ++ y ∷ []) → ⊥
 nothing_more R [] y h = h
 nothing_more R (b ∷ ys) y h = h

@@ -313,7 +313,8 @@ placed_at uuid x k n (i ∷ is) h = by_order (placed_at uuid x (k + 1) n is) (sl
   where
     by_order : (place_from (k + 1) x.name is ≡ Ok n → (j : ℕ) × (n ≡ k + 1 + j) × (j < length is) × ((d : RootIndex) → with_index uuid x is ≡ slice_set is j (grown uuid x.shards (slice_index_or is j d))))
         → (o : Ordering) → match_ordering o (Err k) (Ok k) (place_from (k + 1) x.name is) ≡ Ok n
-        → (j : ℕ) × (n ≡ k + j) × (j < length (i ∷ is)) × ((d : RootIndex) → match_ordering o (first uuid x ∷ i ∷ is) (grown uuid x.shards i ∷ is) (i ∷ with_index uuid x is) ≡ slice_set (i ∷ is) j (grown uuid x.shards (slice_index_or (i ∷ is) j d)))
+        → (j : ℕ) × (n ≡ k + j) × (j < length (i ∷ is))
+        × ((d : RootIndex) → match_ordering o (first uuid x ∷ i ∷ is) (grown uuid x.shards i ∷ is) (i ∷ with_index uuid x is) ≡ slice_set (i ∷ is) j (grown uuid x.shards (slice_index_or (i ∷ is) j d)))
     by_order rest Less e = cc
     by_order rest Equal e = let same : k ≡ n = cc in (0, omega arith, omega arith, (λ d. refl))
     by_order rest Greater e =

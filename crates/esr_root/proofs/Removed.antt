@@ -8,6 +8,7 @@ use Rattle.std.proofs.lemmas.Bool.{cases_Bool, true≢false, not-true, and_parts
 use Rattle.std.specs.declared.cmp.Ordering.TheVariants.{Less}
 use Rattle.std.proofs.lemmas.Slice.Eq.{bytes_eq-Decides}
 use Rattle.std.proofs.lemmas.Map.Views.{any-filter_same}
+use Rattle.std.proofs.lemmas.List.Kept.{IsStrictlySortedBy-filter}
 use Rattle.esr_names.specs.declared.ids.Id.{Id}
 use Rattle.esr_root.specs.Ids.{same_id, has_id}
 use Rattle.esr_root.specs.Snaps.{IsSnap, AreSnaps, clashes, lists}
@@ -18,7 +19,7 @@ use Rattle.esr_root.specs.declared.snaps.RootSnap.{RootSnap}
 use Rattle.esr_root.specs.declared.indices.RootIndex.{RootIndex}
 use Rattle.esr_root.specs.IdLaws.{same_id-is}
 use Rattle.esr_root.specs.NameOrder.{other_above, flipped}
-use Rattle.esr_root.specs.Lists.{any_from_none, all_filter, all_map, all_weaken, distinct_filter, sorted_filter}
+use Rattle.esr_root.specs.Lists.{any_from_none, all_filter, all_map, all_weaken, distinct_filter}
 
 -- a snapshot that is not taken out
 abbrev pub stays : List Id → Id → Bool
@@ -65,7 +66,7 @@ pub AreIndices-without : (uuids : List Id) (is : List RootIndex) → AreIndices 
 AreIndices-without uuids is h = record {
   each = all_whole (map (thinned uuids) is) (all_map IsThin (thinned uuids) is (all_weaken IsIndex (λ i. IsThin (thinned uuids i)) (thin uuids) is h.each));
   distinct = distinct_filter same_index has_some (map (thinned uuids) is) (distinct_thinned uuids is h.distinct);
-  rises = sorted_filter by_name has_some (map (thinned uuids) is) (sorted_thinned uuids is h.rises);
+  rises = IsStrictlySortedBy-filter by_name has_some (map (thinned uuids) is) (sorted_thinned uuids is h.rises);
 }
 
 -- ---- all are listed

@@ -98,16 +98,6 @@ unfolding IsStrictlySortedBy
 sorted_push o [] y h above = (tt, tt)
 sorted_push o (x ∷ xs) y h above = (all_push (λ z. o x z ≡ Less) xs y h.0 above.0, sorted_push o xs y h.1 above.1)
 
-sorted_cond : {A : Type 0} (o : A → A → Ordering) (b : Bool) (x : A) (xs : List A) → AllByRecursion (λ y. o x y ≡ Less) xs → IsStrictlySortedBy o xs → IsStrictlySortedBy o (cond b (x ∷ xs) xs)
-unfolding IsStrictlySortedBy
-sorted_cond o true x xs h more = (h, more)
-sorted_cond o false x xs h more = more
-
-pub sorted_filter : {A : Type 0} (o : A → A → Ordering) (p : A → Bool) (xs : List A) → IsStrictlySortedBy o xs → IsStrictlySortedBy o (filter p xs)
-unfolding IsStrictlySortedBy
-sorted_filter o p [] h = tt
-sorted_filter o p (x ∷ xs) h = sorted_cond o (p x) x (filter p xs) (all_filter (λ y. o x y ≡ Less) p xs h.0) (sorted_filter o p xs h.1)
-
 -- ---- after a push
 
 pub pushed : {A E : Type 0} (P : List A → Type 0) (r : Result (Unit {0}) E) (old new : List A) (x : A)

@@ -32,11 +32,11 @@ outside_first : (b : Bool) (rest : Option Rule) → cond b (Some Outside) rest �
 outside_first true rest h = cc
 outside_first false rest h = refl
 
-later_fault : (i : ℕ) (o : Option Rule) (later : Option BadName) → fault_at i o later ≡ None → (o ≡ None) × (later ≡ None)
+pub later_fault : (i : ℕ) (o : Option Rule) (later : Option BadName) → fault_at i o later ≡ None → (o ≡ None) × (later ≡ None)
 later_fault i None later h = (refl, h)
 later_fault i (Some rule) later h = cc
 
-bytes_ascii : (i : ℕ) (s : List ℕ) → byte_fault i s ≡ None → IsAscii s
+pub bytes_ascii : (i : ℕ) (s : List ℕ) → byte_fault i s ≡ None → IsAscii s
 bytes_ascii i [] h k = omega arith
 bytes_ascii i (c ∷ cs) h zero =
     let here = later_fault i (byte_rule c) (byte_fault (i + 1) cs) h in
@@ -49,7 +49,7 @@ none_of : (b : Bool) (bad : BadName) (rest : Option BadName) → cond b (Some ba
 none_of true bad rest h = cc
 none_of false bad rest h = h
 
-name_utf8 : (firsts s : List ℕ) → name_fault firsts s ≡ None → IsUtf8 s
+pub name_utf8 : (firsts s : List ℕ) → name_fault firsts s ≡ None → IsUtf8 s
 unfolding name_fault
 name_utf8 firsts s h =
     let begins : Option BadName = cond (list_any (λ x. x == slice_index s 0) firsts) (Some (record { place = 0; rule = First })) (byte_fault 0 s) in
@@ -59,14 +59,14 @@ name_utf8 firsts s h =
     let bytes = none_of (list_any (λ x. x == slice_index s 0) firsts) (record { place = 0; rule = First }) (byte_fault 0 s) short in
     IsUtf8-from_ascii s (bytes_ascii 0 s bytes)
 
-first_none : {A : Type 0} (o p : Option A) → option_or o p ≡ None → o ≡ None
+pub first_none : {A : Type 0} (o p : Option A) → option_or o p ≡ None → o ≡ None
 first_none None p h = refl
 first_none (Some x) p h = cc
 
-snap_name_utf8 : (s : List ℕ) → snap_name_fault s ≡ None → IsUtf8 s
+pub snap_name_utf8 : (s : List ℕ) → snap_name_fault s ≡ None → IsUtf8 s
 snap_name_utf8 s h = name_utf8 (codes "_") s h
 
-index_name_utf8 : (s : List ℕ) → index_name_fault s ≡ None → IsUtf8 s
+pub index_name_utf8 : (s : List ℕ) → index_name_fault s ≡ None → IsUtf8 s
 index_name_utf8 s h = name_utf8 (codes "_-+") s (first_none (name_fault (codes "_-+") s) _ h)
 
 -- ---- the parts

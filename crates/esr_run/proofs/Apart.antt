@@ -8,6 +8,7 @@ use Rattle.esr_script.specs.declared.item.Item.{Item}
 use Rattle.esr_script.specs.declared.item.Item.TheVariants as items
 use Rattle.esr_desk.specs.Start.{Start}
 use Rattle.esr_desk.specs.Check.Shown.{AllFetches}
+use Rattle.esr_desk.specs.Unquiet.{has_here}
 use Rattle.esr_quiet.specs.Asked.{is_line_ask, is_asked, as_asked, asked_steps, GrewAsking}
 use Rattle.esr_drive.specs.Elections.{IsOfWait, AllOfWait, WaitsOnly}
 use Rattle.esr_verify.specs.Began as verifying
@@ -71,12 +72,8 @@ AsksNone more = (m : Moment) → Has more m → m.entry.who ≡ 0 → AsksOrDraw
 abbrev TakesNone : List Moment → Type 0
 TakesNone more = (m : Moment) → Has more m → m.entry.step ≡ TakeStep → ⊥
 
-has_middle : (front : List Moment) (m : Moment) (back : List Moment) → Has (front ++ m ∷ back) m
-has_middle [] m back = inl refl
-has_middle (x ∷ front) m back = inr (has_middle front m back)
-
 in_more : (more front : List Moment) (m : Moment) (back : List Moment) → more ≡ front ++ m ∷ back → Has more m
-in_more more front m back at = subst (λ (l : List Moment). Has l m) (sym at) (has_middle front m back)
+in_more more front m back at = subst (λ (l : List Moment). Has l m) (sym at) (has_here front m back)
 
 module _ (P Q : List Moment → Type 0) where
   apart_asking_none : (old new more : List Moment) → new ≡ old ++ more → AsksNone more → TakesNone more → AskedWhere P Q old new

@@ -2,6 +2,7 @@
 use Rattle.std.proofs.Common.{◌≡◌, ◌≢◌, ℕ, ◌+◌, ◌==◌, ◌&&◌, if◌then◌else◌, Bool, true, false, true≢false, List, [], ◌∷◌, ◌++◌, append-nil, append_assoc, Option, nat_cmp, Result, Ok, Err, IfErr, refl, sym, ap, ◌∙◌, subst, inl, inr, ⊎_elim, arith}
 use Rattle.std.specs.FinMap.{FinMap}
 use Rattle.std.specs.FinMap as fin
+use Rattle.std.proofs.Math.Bool.{and-false}
 use Rattle.esr_model.specs.Lists.{Has-left}
 use Rattle.esr_model.specs.Names.{BlobName}
 use Rattle.esr_model.specs.Values.{Has, Formats}
@@ -55,15 +56,11 @@ check_asks (CheckedAll snapshots blobs) h = refl
 check_asks (ReadFails why) h = refl
 check_asks read h = absurd h
 
-and_false : (b : Bool) → (b && false) ≡ false
-and_false true = refl
-and_false false = refl
-
 unasked_more : (rest : List Moment) → AllOfCheck rest → asked_steps rest ≡ []
 unasked_more [] all = refl
 unasked_more (m ∷ rest) all =
     ap (λ (b : Bool). if b then as_asked m.entry.step ∷ asked_steps rest else asked_steps rest)
-    (ap (λ (b : Bool). (m.entry.who == 0) && b) (ap is_line_ask all.1.1 ∙ check_asks all.1.0 all.1.2) ∙ and_false (m.entry.who == 0))
+    (ap (λ (b : Bool). (m.entry.who == 0) && b) (ap is_line_ask all.1.1 ∙ check_asks all.1.0 all.1.2) ∙ and-false (m.entry.who == 0))
     ∙ unasked_more rest all.2
 
 look_asked : (m : Moment) (rest : List Moment) → m.entry.who ≡ 0 → m.entry.step ≡ LookStep → AllOfCheck rest → asked_steps (m ∷ rest) ≡ LookStep ∷ []
@@ -328,8 +325,8 @@ deposed_caller : (s : Start) (old new : List Moment) (refusal : EntryRefusal) �
 deposed_caller s old new (refusals.Deposed entry) h = h.1
 deposed_caller s old new refusal h = absurd h
 
-pub check_refused : (X : Type 0) {S F H T : Type 0} (evidence : Evidence S F H T) (s : Start) (workers : ℕ) (old new : List Moment) (e : UnitRefusal) → AsksOne {X = X} old new (Err e) → IsCheckRefused evidence s old new e → NoneChecked old new
-    → (AreFirst s old → AreFirst s new) → (Legal s old → Legal s new) → MayVerify s workers true old → VerifiesOn s workers true new (check_result {X = X} (Err e))
+pub check_refused : (X : Type 0) {S F H T : Type 0} (evidence : Evidence S F H T) (s : Start) (workers : ℕ) (old new : List Moment) (e : UnitRefusal) → AsksOne {X = X} old new (Err e) → IsCheckRefused evidence s old new e
+    → NoneChecked old new → (AreFirst s old → AreFirst s new) → (Legal s old → Legal s new) → MayVerify s workers true old → VerifiesOn s workers true new (check_result {X = X} (Err e))
 check_refused X evidence s workers old new (units.Failed why) asks err none first legal may = record { whole = whole_then s workers old new asks none first may; idle = subst IsIdle (sym err.0) none_idle; legal = legal may.legal }
 check_refused X evidence s workers old new (units.Stopped (steps.Refused refusal)) asks err none first legal may =
     record { whole = whole_then s workers old new asks none first may; idle = subst IsIdle (sym (deposed_caller s old new refusal err)) may.idle; legal = legal may.legal }
@@ -387,7 +384,8 @@ was_refused s old new (refusals.Deposed entry) h stops =
     ]
 was_refused s old new refusal h stops = absurd stops
 
-pub check_ended : (X : Type 0) {S F H T : Type 0} (evidence : Evidence S F H T) (s : Start) (old new : List Moment) (e : UnitRefusal) → AsksOne {X = X} old new (Err e) → IsCheckRefused evidence s old new e → CheckEnds old new (check_result {X = X} (Err e))
+pub check_ended : (X : Type 0) {S F H T : Type 0} (evidence : Evidence S F H T) (s : Start) (old new : List Moment) (e : UnitRefusal) → AsksOne {X = X} old new (Err e) → IsCheckRefused evidence s old new e
+    → CheckEnds old new (check_result {X = X} (Err e))
 check_ended X evidence s old new (units.Failed why) asks err = err.2
 check_ended X evidence s old new (units.Stopped (steps.Refused refusal)) asks err = was_refused s old new refusal asks err
 check_ended X evidence s old new (units.Stopped steps.Memory) asks err = asks

@@ -1,6 +1,7 @@
 -- Histories without a check that failed, and those whose checks are whole.
 use Rattle.std.proofs.Common.{◌≡◌, ◌≢◌, ◌⊎◌, ℕ, true, false, true≢false, List, [], ◌∷◌, ◌++◌, append-nil, append_assoc, Option, Some, None, refl, sym, ap, ◌∙◌, subst, inl, inr, ⊎_elim}
 use Rattle.std.specs.FinMap as fin
+use Rattle.std.proofs.lemmas.Bool.{false≢true}
 use Rattle.esr_model.specs.Values.{Bytes, Has, Formats}
 use Rattle.esr_model.specs.Names.{BlobName}
 use Rattle.esr_model.specs.Image.{Image}
@@ -50,9 +51,6 @@ wrote_open : (c : Caller) (name : BlobName) (contents : Option Bytes) → IsOpen
 wrote_open c name None is_open = is_open
 wrote_open c name (Some bytes) is_open = is_open
 
-not_true : false ≡ true → ⊥
-not_true e = cc
-
 blob_open : (f : Formats) (c : Caller) (name : BlobName) (reply : Reply) (image : Option Image) → IsOpen (caller_after f c 0 (ReadStep (ReadBlob name)) reply image) → IsOpen c
 blob_open f c name WasFetched image is_open = told_open c name (told_blob f image name) is_open
 blob_open f c name WasAbsent image is_open = is_open
@@ -67,11 +65,11 @@ remove_open f c names WasRemoved image is_open = is_open
 remove_open f c names reply image is_open = is_open
 
 verified_open : (f : Formats) (c : Caller) (reply : Reply) (image : Option Image) → IsOpen (caller_after f c 0 (ReadStep VerifiedAll) reply image) → IsOpen c
-verified_open f c HasEnded image is_open = absurd (not_true is_open.0)
+verified_open f c HasEnded image is_open = absurd (false≢true is_open.0)
 verified_open f c reply image is_open = is_open
 
 failed_open : (f : Formats) (c : Caller) (why : Why) (reply : Reply) (image : Option Image) → IsOpen (caller_after f c 0 (ReadStep (ReadFails why)) reply image) → IsOpen c
-failed_open f c why HasEnded image is_open = absurd (not_true is_open.0)
+failed_open f c why HasEnded image is_open = absurd (false≢true is_open.0)
 failed_open f c why reply image is_open = is_open
 
 -- no further step of a verification opens a check
@@ -109,12 +107,9 @@ draws f size w who step reply image a = tt
 some_not_none : (n : ℕ) → ◌≡◌ {A = Option ℕ} (Some n) None → ⊥
 some_not_none n e = cc
 
-true_not_false : true ≡ false → ⊥
-true_not_false e = cc
-
 draw_closed : (f : Formats) (c : Caller) (reply : Reply) (image : Option Image) → OfDraw (ReadStep DrawTest) reply → IsOpen (caller_after f c 0 (ReadStep DrawTest) reply image) → ⊥
 draw_closed f c (DrawnFrom first) image of is_open = some_not_none first is_open.1
-draw_closed f c (Refused (IdsSpent next)) image of is_open = true_not_false is_open.2
+draw_closed f c (Refused (IdsSpent next)) image of is_open = true≢false is_open.2
 draw_closed f c reply image of is_open = of
 
 -- ---- worlds in which no check is open, or that are deposed
@@ -251,7 +246,8 @@ pub begun_checked : (s : Start) (old new : List Moment) → HasBegun old new →
 begun_checked s old new h was =
     subst (AreChecked s) (sym h.is)
     (checked_more s old (h.draw ∷ h.rest)
-    (λ m has. ⊎_elim (λ (same : h.draw ≡ m). λ snapshots blobs step reply. draw_no_check snapshots blobs (sym h.drew ∙ ap (λ (y : Moment). y.entry.step) same ∙ step)) (λ (later : Has h.rest m). further_none h.rest h.all m later) has) was)
+    (λ m has. ⊎_elim (λ (same : h.draw ≡ m). λ snapshots blobs step reply. draw_no_check snapshots blobs (sym h.drew ∙ ap (λ (y : Moment). y.entry.step) same ∙ step)) (λ (later : Has h.rest m). further_none h.rest h.all m later) has)
+    was)
 
 pub maybe_checked : (s : Start) (old new : List Moment) → BeganOne old new → AreChecked s old → AreChecked s new
 maybe_checked s old new (NotBegun is) was = subst (AreChecked s) (sym is) was

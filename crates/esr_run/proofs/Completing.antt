@@ -1,5 +1,5 @@
 -- What a run over quiet objects ends with.
-use Rattle.std.proofs.Common.{◌≡◌, ◌≢◌, ◌⊎◌, ℕ, zero, suc, ◌+◌, ◌^◌, ◌<◌, ◌≤◌, Bool, true, false, cond, nat_lt, List, [], ◌∷◌, ◌++◌, append_assoc, map, length, Option, Some, is_some, refl, sym, ap, ◌∙◌, subst, inl, inr, ⊎_elim, arith}
+use Rattle.std.proofs.Common.{◌≡◌, ◌≢◌, ◌⊎◌, ℕ, zero, suc, ◌+◌, ◌^◌, ◌<◌, ◌≤◌, Bool, true, false, cond, nat_lt, List, [], ◌∷◌, ◌++◌, append-nil, append_assoc, map, length, Option, Some, is_some, refl, sym, ap, ◌∙◌, subst, inl, inr, ⊎_elim, arith}
 use Rattle.std.specs.Prelude.{◌&&◌, ◌==◌, unwrap_or, if◌then◌else◌}
 use Rattle.std.proofs.lemmas.Bool.{ltb-true, ltb-false, le-ltb}
 use Rattle.std.proofs.lemmas.Bool.Decides.{eqb_tells}
@@ -41,11 +41,14 @@ use Rattle.esr_complete.specs.InTurn.{IsInTurn, AreChecksInTurn}
 use Rattle.esr_complete.specs.Answers.{AreAnswered, EndsWell}
 use Rattle.esr_complete.specs.FaultFree.{IsFaultFreeRun}
 use Rattle.esr_run.specs.Start.{Telling, formats_by, steady_by, start_of}
-use Rattle.esr_run.specs.Complete.{AsksRestore, IsQuietFor, SpentBy, IsAnsweredWell, Completes}
+use Rattle.esr_run.specs.Complete.{AsksRestore, IsQuietFor, AsksMuch, SpentBy, IsAnsweredWell, Completes}
 use Rattle.esr_run.specs.Laws.{QuietLaws}
 use Rattle.esr_run.specs.Verified.{AreClosed}
-use Rattle.esr_run.specs.Made.{MadeFirst, AreElected, IsWaiting, AskedApart, HasFallen, AreDone, NoneOpen}
+use Rattle.esr_run.specs.Waits.{AreFew}
+use Rattle.esr_run.specs.Made.{MadeFirst, AreElected, IsWaiting, AskedApart, AskedUnlessStopped, HasFallen, AreDone, NoneOpen}
 use Rattle.esr_run.proofs.Leaving.{long_ends}
+use Rattle.esr_run.proofs.Unlisted.{refuses_unlisted}
+use Rattle.esr_run.proofs.Long.{IsQuietRun, asks_much}
 use Rattle.esr_run.proofs.Parts.{are_parts}
 use Rattle.esr_run.proofs.Making.{legal_one, legal_front}
 use Rattle.esr_run.proofs.Callers.{waiting_closed}
@@ -176,7 +179,8 @@ module _ (log : List Moment) (es : List Entry) (entries : entries_of log ≡ es)
       let p = place_of log m h in
       let whole : es ≡ entries_of p.front ++ m.entry ∷ entries_of p.back = sym entries ∙ ap entries_of p.is ∙ entries_both p.front (m ∷ p.back) in
       let fell : FailedSwap (entries_of p.front) place = named (entries_of p.front) (entries_of p.back) m.entry place whole is in
-      let there : Has es fell.entry = subst (λ (l : List Entry). Has l fell.entry) (sym whole) (Has-left (entries_of p.front) (m.entry ∷ entries_of p.back) fell.entry (subst (λ (l : List Entry). Has l fell.entry) (sym fell.is) (in_middle fell.front fell.back fell.entry))) in
+      let there : Has es fell.entry = subst (λ (l : List Entry). Has l fell.entry) (sym whole)
+      (Has-left (entries_of p.front) (m.entry ∷ entries_of p.back) fell.entry (subst (λ (l : List Entry). Has l fell.entry) (sym fell.is) (in_middle fell.front fell.back fell.entry))) in
       none_counted es fell.entry none there fell.reply
     where
       Has-left : (a b : List Entry) (e : Entry) → Has a e → Has (a ++ b) e
@@ -199,7 +203,8 @@ behind n log step false h = h
 pub in_asked : (log : List Moment) (m : Moment) → Has log m → is_asked m.entry ≡ true → Has (asked_steps log) (as_asked m.entry.step)
 in_asked [] m h asked = absurd h
 in_asked (n ∷ log) m (inl e) asked =
-    subst (λ (l : List Step). Has l (as_asked m.entry.step)) (sym (ap (λ (b : Bool). if b then as_asked n.entry.step ∷ asked_steps log else asked_steps log) (ap (λ (x : Moment). is_asked x.entry) e ∙ asked))) (inl (ap (λ (x : Moment). as_asked x.entry.step) e))
+    subst (λ (l : List Step). Has l (as_asked m.entry.step))
+    (sym (ap (λ (b : Bool). if b then as_asked n.entry.step ∷ asked_steps log else asked_steps log) (ap (λ (x : Moment). is_asked x.entry) e ∙ asked))) (inl (ap (λ (x : Moment). as_asked x.entry.step) e))
 in_asked (n ∷ log) m (inr h) asked = behind n log (as_asked m.entry.step) (is_asked n.entry) (in_asked log m h asked)
 
 pub in_wanted : (first rest wanted : List Step) (step : Step) → first ++ rest ≡ wanted → Has first step → Has wanted step
@@ -299,7 +304,8 @@ is_steady telling place name number quiet there = ap (λ (b : Bool). b && unwrap
 
 -- ---- a run over quiet objects
 
-module _ {S F H T : Type 0} (laws : QuietLaws S F H T) (evidence : Evidence S F H T) (telling : Telling) (size moment : ℕ) (lines : List ScriptLine) (before after : Look) (world : World) (clock : ℕ) (history : List Entry) (faults : List (Fault S F H T))
+module _ {S F H T : Type 0} (laws : QuietLaws S F H T) (evidence : Evidence S F H T) (telling : Telling) (size workers moment : ℕ)
+    (lines : List ScriptLine) (before after : Look) (world : World) (clock : ℕ) (history : List Entry) (faults : List (Fault S F H T))
     (opened : (i : Held) → now before ≡ Some i → Opened (formats_by telling) (image_of i) world) where
   abbrev s : Start
   s = start_of telling size true before world
@@ -307,13 +313,14 @@ module _ {S F H T : Type 0} (laws : QuietLaws S F H T) (evidence : Evidence S F 
   abbrev log : List Moment
   log = log_of after clock history
 
-  module _ (legal : Legal s log) (told : s.tells ≡ true → AreTold log) (shown : AreShown {S = S} {F = F} {H = H} {T = T} evidence s log faults) (once : AreOnce s log) (tested : AreTested s log) (calm : IsCalm true after.sure history) (named : AreDeposedSo history)
-      (made : MadeFirst s (steps_of moment lines) [] log) (apart : AreClosed s log) (quiet_for : IsQuietFor telling before lines) (known : AllKnown (formats_by telling)) (few : length history < 2 ^ 33) (unspent : (e : Entry) → Has history e → IsSpent e.reply → ⊥) where
+  module _ (legal : Legal s log) (told : s.tells ≡ true → AreTold log) (shown : AreShown {S = S} {F = F} {H = H} {T = T} evidence s log faults)
+      (once : AreOnce s log) (tested : AreTested s log) (calm : IsCalm true after.sure history) (named : AreDeposedSo history)
+      (made : MadeFirst s (steps_of moment lines) [] log) (apart : AreClosed s log) (quiet_for : IsQuietFor telling before lines) (known : AllKnown (formats_by telling)) (unspent : (e : Entry) → Has history e → IsSpent e.reply → ⊥) where
     entries : entries_of log ≡ history
     entries = entries_are (image_at after) clock history
 
-    none_faults : fault_entries history ≡ 0
-    none_faults = (calm refl (let less : length history < 2 ^ 33 = few in omega (arith, less))).0
+    none_faults : length history < 2 ^ 33 → fault_entries history ≡ 0
+    none_faults few = (calm refl).0 history [] (sym (append-nil history)) (let less : length history < 2 ^ 33 = few in omega (arith, less))
 
     -- what who 0 asked is what lines ask for
     wanted : (m : Moment) → Has log m → m.entry.who ≡ 0 → is_line_ask m.entry.step ≡ true → OfLine moment lines (as_asked m.entry.step)
@@ -336,8 +343,8 @@ module _ {S F H T : Type 0} (laws : QuietLaws S F H T) (evidence : Evidence S F 
     tells : s.tells ≡ true
     tells = ap is_some quiet_for.holds.told
 
-    calm_log : AreCalm log
-    calm_log = calm_is log history entries none_faults
+    calm_log : length history < 2 ^ 33 → AreCalm log
+    calm_log few = calm_is log history entries (none_faults few)
 
     -- where a unit is given no verification is open
     given_closed : AskedApart s [] log → (front back : List Moment) (m : Moment) (ticket op : ℕ) → log ≡ front ++ m ∷ back → m.entry.reply ≡ Gave ticket op GivenCleanup → NoneOpen s front
@@ -349,8 +356,8 @@ module _ {S F H T : Type 0} (laws : QuietLaws S F H T) (evidence : Evidence S F 
         let was : Legal s front = legal_front (formats_of s) size front (m ∷ back) world whole in
         waiting_closed laws.leaves s front was waits
 
-    smooth : AskedApart s [] log → IsSmooth s log
-    smooth asked_apart = record {
+    smooth : length history < 2 ^ 33 → AskedApart s [] log → IsSmooth s log
+    smooth few asked_apart = record {
       tells = tells;
       quiet = refl;
       known = known;
@@ -363,7 +370,7 @@ module _ {S F H T : Type 0} (laws : QuietLaws S F H T) (evidence : Evidence S F 
       once = once;
       tested = tested;
       steady = steady;
-      calm = calm_log;
+      calm = calm_log few;
       unspent = λ m h spent. unspent m.entry (subst (λ (l : List Entry). Has l m.entry) entries (has_entry log m h)) spent;
       apart = λ front back m command is who step. (asked_apart.apart front back m (sym asked_apart.is ∙ is) who (inl (command, step))).tickets;
       tests_apart = record {
@@ -402,31 +409,77 @@ module _ {S F H T : Type 0} (laws : QuietLaws S F H T) (evidence : Evidence S F 
     }
 
     rules : IsSmooth s log → AreByRule s log
-    rules smooth = laws.rules s log smooth (none_failed smooth)
+    rules smooth = laws.rules s log smooth
+
+    -- ---- where 2 ^ 33 entries were made
+
+    front_is : (front back : List Moment) → log ≡ front ++ back → history ≡ entries_of front ++ entries_of back
+    front_is front back is = sym entries ∙ ap entries_of is ∙ entries_both front back
+
+    front_faultless : (front back : List Moment) → log ≡ front ++ back → length front ≤ 2 ^ 33 → fault_entries (entries_of front) ≡ 0
+    front_faultless front back is few =
+        let same : length (entries_of front) ≡ length front = as_many front in
+        let most : length front ≤ 2 ^ 33 = few in
+        let less : length (entries_of front) ≤ 2 ^ 41 = omega (arith, same, most) in
+        (calm refl).0 (entries_of front) (entries_of back) (front_is front back is) less
+
+    front_deposed : (front back : List Moment) → log ≡ front ++ back → AreDeposedSo (entries_of front)
+    front_deposed front back is a b e place whole =
+        named a (b ++ entries_of back) e place (front_is front back is ∙ ap (λ (l : List Entry). l ++ entries_of back) whole ∙ append_assoc a (e ∷ b) (entries_of back))
+
+    quiet_run : AskedUnlessStopped s [] log → IsQuietRun s log
+    quiet_run unless = record {
+      tells = tells;
+      quiet = refl;
+      alone = refl;
+      known = known;
+      image = image_of quiet_for.holds.image;
+      shelf = quiet_for.shelf;
+      kept = quiet_for.holds.kept;
+      opened = opened quiet_for.holds.image quiet_for.holds.told;
+      legal = legal;
+      told = told tells;
+      once = once;
+      tested = tested;
+      steady = steady;
+      calm = λ front back is few. calm_is front (entries_of front) refl (front_faultless front back is few);
+      unspent = λ m h spent. unspent m.entry (subst (λ (l : List Entry). Has l m.entry) entries (has_entry log m h)) spent;
+      undeposed = λ front back m place is few. never_deposed front (entries_of front) refl (front_faultless front back is few) (front_deposed front back is) m place;
+      unless = unless;
+    }
+
+    much : AreFew workers lines log → AskedUnlessStopped s [] log → 2 ^ 33 ≤ length history → AsksMuch (formats_by telling) size workers moment world lines log
+    much takes unless many =
+        let same : length history ≡ length log = ap length (sym entries) ∙ as_many log in
+        let most : 2 ^ 33 ≤ length history = many in
+        let long : 2 ^ 33 ≤ length log = omega (arith, same, most) in
+        asks_much laws s log (quiet_run unless) workers moment lines takes made (refuses_unlisted telling) long
+
+    -- ---- where fewer were
 
     -- the work wasn't stopped
-    not_stopped : HasFallen s moment lines [] log → ⊥
-    not_stopped (inl fell) = calm_log fell.1.moment fell.1.there fell.1.failed
-    not_stopped (inr all) =
+    not_stopped : length history < 2 ^ 33 → HasFallen s moment lines [] log → ⊥
+    not_stopped short (inl fell) = calm_log short fell.1.moment fell.1.there fell.1.failed
+    not_stopped short (inr all) =
         let many : length history ≡ length log = ap length (sym entries) ∙ as_many log in
         let most : 2 ^ 33 ≤ length log = all in
-        let less : length history < 2 ^ 33 = few in
+        let less : length history < 2 ^ 33 = short in
         omega (arith, many, most, less)
 
     -- as many masters were elected as lines ask for
     elected_all : AreElected lines [] log → elections_of (entries_of log) ≡ failovers_of lines
     elected_all elected = elections_told log ∙ none_before (elections log) (failovers_of lines) elected
 
-    short_log : length log < 2 ^ 33
-    short_log =
+    short_log : length history < 2 ^ 33 → length log < 2 ^ 33
+    short_log short =
         let many : length history ≡ length log = ap length (sym entries) ∙ as_many log in
-        let less : length history < 2 ^ 33 = few in
+        let less : length history < 2 ^ 33 = short in
         omega (arith, many, less)
 
-    well : AreDone s moment lines [] log → IsAnsweredWell s moment lines log history
-    well done =
-        let checks : AreChecksInTurn moment lines log = inr (are_parts s moment lines log refl done.parted (never_deposed log history entries none_faults named)) in
-        let is_smooth : IsSmooth s log = smooth done.apart in
+    well : length history < 2 ^ 33 → AreDone s moment lines [] log → IsAnsweredWell s moment lines log history
+    well few_made done =
+        let checks : AreChecksInTurn moment lines log = inr (are_parts s moment lines log refl done.parted (never_deposed log history entries (none_faults few_made) named)) in
+        let is_smooth : IsSmooth s log = smooth few_made done.apart in
         let asked : asked_steps log ≡ steps_of moment lines = ap asked_steps done.grew.is ∙ done.grew.asked refl in
         let run : IsFaultFreeRun s log lines moment = record {
           smooth = is_smooth;
@@ -440,7 +493,7 @@ module _ {S F H T : Type 0} (laws : QuietLaws S F H T) (evidence : Evidence S F 
           idle = done.idle;
           elected = elected_all done.elected;
           asked = asked;
-          short = short_log;
+          short = short_log few_made;
         } in
         record {
           answered = subst (λ (es : List Entry). AreAnswered lines (replies lines es)) entries (laws.answered s log lines moment run);
@@ -448,11 +501,11 @@ module _ {S F H T : Type 0} (laws : QuietLaws S F H T) (evidence : Evidence S F 
           waits = done.waits;
         }
 
-  pub completes : (status : ℕ) → Legal s log → (s.tells ≡ true → AreTold log) → AreShown {S = S} {F = F} {H = H} {T = T} evidence s log faults → AreOnce s log → AreTested s log → IsCalm true after.sure history → AreDeposedSo history
-      → MadeFirst s (steps_of moment lines) [] log → AreClosed s log → AreDone s moment lines [] log ⊎ HasFallen s moment lines [] log → status ≡ status_of (ending lines history) → elections log ≤ failovers_of lines
-      → IsQuietFor telling before lines
-      → Completes telling size moment lines before world clock after history status
-  completes status legal told shown once tested calm named made apart done is elects quiet_for known =
+  pub completes : (status : ℕ) → Legal s log → (s.tells ≡ true → AreTold log) → AreShown {S = S} {F = F} {H = H} {T = T} evidence s log faults → AreOnce s log → AreTested s log → IsCalm true after.sure history
+      → AreDeposedSo history → MadeFirst s (steps_of moment lines) [] log → AreClosed s log → AreDone s moment lines [] log ⊎ HasFallen s moment lines [] log → status ≡ status_of (ending lines history) → AreFew workers lines log
+      → AskedUnlessStopped s [] log → IsQuietFor telling before lines
+      → Completes telling size workers moment lines before world clock after history status
+  completes status legal told shown once tested calm named made apart done is takes unless quiet_for known =
       ⊎_elim
       (λ (spent : Spent history).
       let found = moment_of log spent.0 (subst (λ (es : List Entry). Has es spent.0) (sym (entries_are (image_at after) clock history)) spent.1) in
@@ -461,18 +514,18 @@ module _ {S F H T : Type 0} (laws : QuietLaws S F H T) (evidence : Evidence S F 
       inl (inl (
         m,
         found.1,
-        spent_by world lines log m.entry.reply elects (λ refusal e. laws.spent (formats_of s) size world log m refusal first legal found.1 e) (subst (λ (e : Entry). IsSpent e.reply) (sym found.2) spent.2),
+        spent_by world lines log m.entry.reply takes.elects (λ refusal e. laws.spent (formats_of s) size world log m refusal first legal found.1 e) (subst (λ (e : Entry). IsSpent e.reply) (sym found.2) spent.2),
       )))
       (λ (unspent : (e : Entry) → Has history e → IsSpent e.reply → ⊥).
       ⊎_elim
       (λ (many : 2 ^ 33 ≤ length history).
       let long : is_short history ≡ false = le-ltb (length history) (2 ^ 33) many in
-      inl (inr (many, subst (λ (n : ℕ). 2 ≤ n) (sym is) (long_ends lines history long))))
+      inl (inr (many, subst (λ (n : ℕ). 2 ≤ n) (sym is) (long_ends lines history long), much legal told shown once tested calm named made apart quiet_for known unspent takes unless many)))
       (λ (few : length history < 2 ^ 33).
       inr (
         ⊎_elim
-            (λ (all : AreDone s moment lines [] log). well legal told shown once tested calm named made apart quiet_for known few unspent all)
-            (λ (stopped : HasFallen s moment lines [] log). absurd (not_stopped legal told shown once tested calm named made apart quiet_for known few unspent stopped))
+            (λ (all : AreDone s moment lines [] log). well legal told shown once tested calm named made apart quiet_for known unspent few all)
+            (λ (stopped : HasFallen s moment lines [] log). absurd (not_stopped legal told shown once tested calm named made apart quiet_for known unspent few stopped))
             done,
         is,
       ))

@@ -67,13 +67,21 @@ refused_at count before mid after old_faults mid_faults new_faults refusal same 
 pub unopened : {S F H T : Type 0} (laws : Laws) (evidence : Evidence S F H T) (files : Telling) (before after : Look) (old_faults new_faults : ℕ) (history : List Entry) (faults : List (Fault S F H T)) (refusal : OpenRefusal F)
     → IsOpenRefused evidence.fetch_faults before after old_faults new_faults refusal → history ≡ [] → faults ≡ listed (fetch_of refusal) → IsUnopened evidence files before after old_faults new_faults history faults
 unopened laws evidence files before after old_faults new_faults history faults refusal refused empty are =
-    record { refusal = refusal; refused = refused; every_image = refused_kept laws files evidence.fetch_faults before after old_faults new_faults refusal refused; tidy = refused_tidy files evidence.fetch_faults before after old_faults new_faults refusal refused; empty = empty; faults_are = are }
+    record {
+      refusal = refusal;
+      refused = refused;
+      every_image = refused_kept laws files evidence.fetch_faults before after old_faults new_faults refusal refused;
+      tidy = refused_tidy files evidence.fetch_faults before after old_faults new_faults refusal refused;
+      empty = empty;
+      faults_are = are;
+    }
 
 -- what is told of the history by the container alone, as the run tells it
 abbrev pub Begun : Telling → ℕ → Bool → Look → Kept → Start
 Begun files size quiet mid k = start_of files size quiet mid (begun_world (now mid) (cluster_of k.cluster) (root_of k.root) k.plan)
 
-unfoldable pub opened_run : {S F H T : Type 0} (laws : Laws) (kept : KeptLaws S F H T) (evidence : Evidence S F H T) (files : Telling) (size workers moment : ℕ) (lines : List ScriptLine) (quiet : Bool) (before mid after : Look) (k : Kept) (history : List Entry) (faults : List (Fault S F H T)) → IsOpening before mid k → (2 ^ 62 ≤ before.sure → quiet ≡ true)
+unfoldable pub opened_run : {S F H T : Type 0} (laws : Laws) (kept : KeptLaws S F H T) (evidence : Evidence S F H T) (files : Telling) (size workers moment : ℕ) (lines : List ScriptLine)
+    (quiet : Bool) (before mid after : Look) (k : Kept) (history : List Entry) (faults : List (Fault S F H T)) → IsOpening before mid k → (2 ^ 62 ≤ before.sure → quiet ≡ true)
     → LegalRun (Begun files size quiet mid k) mid.clock after history → IsPast (Begun files size quiet mid k) mid.clock mid.since after history → AreShown evidence (Begun files size quiet mid k) (log_of after mid.clock history) faults
     → AreOnce (Begun files size quiet mid k) (log_of after mid.clock history) → AreTested (Begun files size quiet mid k) (log_of after mid.clock history) → NoneTwice (log_of after mid.clock history)
     → AreRemovedOnce (log_of after mid.clock history) → IsCalm quiet after.sure history → MadeFirst (Begun files size quiet mid k) (steps_of moment lines) [] (log_of after mid.clock history)
@@ -134,7 +142,8 @@ not_wanting SwapFailed is = cc
 not_wanting (BlobDamaged name) is = cc
 not_wanting NumbersSpent is = cc
 
-pub verdict_opening : {S F H T : Type 0} (laws : Laws) (kept : KeptLaws S F H T) (evidence : Evidence S F H T) (files : Telling) (size workers moment : ℕ) (lines : List ScriptLine) (quiet : Bool) (before mid after : Look) (k : Kept) (history : List Entry) (faults : List (Fault S F H T))
+pub verdict_opening : {S F H T : Type 0} (laws : Laws) (kept : KeptLaws S F H T) (evidence : Evidence S F H T) (files : Telling) (size workers moment : ℕ)
+    (lines : List ScriptLine) (quiet : Bool) (before mid after : Look) (k : Kept) (history : List Entry) (faults : List (Fault S F H T))
     (old_faults new_faults status : ℕ) (text : Bytes) → IsOpening before mid k → (2 ^ 62 ≤ before.sure → quiet ≡ true)
     → LegalRun (Begun files size quiet mid k) mid.clock after history → IsPast (Begun files size quiet mid k) mid.clock mid.since after history → AreShown evidence (Begun files size quiet mid k) (log_of after mid.clock history) faults
     → AreOnce (Begun files size quiet mid k) (log_of after mid.clock history) → AreTested (Begun files size quiet mid k) (log_of after mid.clock history) → NoneTwice (log_of after mid.clock history)
@@ -145,8 +154,10 @@ pub verdict_opening : {S F H T : Type 0} (laws : Laws) (kept : KeptLaws S F H T)
     → (status ≡ 8) ⊎ (AreDone (Begun files size quiet mid k) moment lines [] (log_of after mid.clock history) ⊎ HasFallen (Begun files size quiet mid k) moment lines [] (log_of after mid.clock history))
     → IsVerdict status text (IsOpenCause evidence files size workers moment before after old_faults new_faults lines history faults)
 unfolding opened_run
-verdict_opening laws kept evidence files size workers moment lines quiet before mid after k history faults old_faults new_faults status text o quiet_is legal past shown once tested single removed calm made verified takes apart (inl wanting) done = inl wanting
-verdict_opening laws kept evidence files size workers moment lines quiet before mid after k history faults old_faults new_faults status text o quiet_is legal past shown once tested single removed calm made verified takes apart (inr told) (inl wanting) =
+verdict_opening laws kept evidence files size workers moment lines quiet before mid after k history faults old_faults new_faults status text o quiet_is legal past shown once tested single removed calm made verified takes apart (inl wanting) done =
+    inl wanting
+verdict_opening laws kept evidence files size workers moment lines quiet before mid after k history faults old_faults new_faults
+    status text o quiet_is legal past shown once tested single removed calm made verified takes apart (inr told) (inl wanting) =
     absurd (not_wanting (ending lines history) (sym told.0 ∙ wanting))
 verdict_opening laws kept evidence files size workers moment lines quiet before mid after k history faults old_faults new_faults status text o quiet_is legal past shown once tested single removed calm made verified takes apart (inr told) (inr done) =
     inr (record {
@@ -179,29 +190,41 @@ has_fetch evidence faults old_faults new_faults fetch are (inl cause) = inl caus
 has_fetch evidence faults old_faults new_faults None are (inr failed) = absurd failed
 has_fetch evidence faults old_faults new_faults (Some fetch) are (inr failed) = inr (subst (λ fs. HasFetch evidence.fetch_faults fs) (sym are) (record { fetch = fetch; listed_so = inl refl; failed = failed }))
 
-pub verdict_refused : {S F H T : Type 0} (status : ℕ) (text : Bytes) (evidence : Evidence S F H T) (files : Telling) (size workers moment : ℕ) (before after : Look) (old_faults new_faults : ℕ) (lines : List ScriptLine) (history : List Entry) (faults : List (Fault S F H T))
-    (refusal : OpenRefusal F) → IsTold status text (end_of_refusal refusal) → IsOpenRefused evidence.fetch_faults before after old_faults new_faults refusal → history ≡ [] → faults ≡ listed (fetch_of refusal) → IsVerdict status text (IsOpenCause evidence files size workers moment before after old_faults new_faults lines history faults)
-verdict_refused status text evidence files size workers moment before after old_faults new_faults lines history faults refusals.Memory told refused empty are = told_none status text (IsOpenCause evidence files size workers moment before after old_faults new_faults lines history faults) told
+pub verdict_refused : {S F H T : Type 0} (status : ℕ) (text : Bytes) (evidence : Evidence S F H T) (files : Telling) (size workers moment : ℕ)
+    (before after : Look) (old_faults new_faults : ℕ) (lines : List ScriptLine) (history : List Entry) (faults : List (Fault S F H T))
+    (refusal : OpenRefusal F) → IsTold status text (end_of_refusal refusal) → IsOpenRefused evidence.fetch_faults before after old_faults new_faults refusal → history ≡ [] → faults ≡ listed (fetch_of refusal)
+    → IsVerdict status text (IsOpenCause evidence files size workers moment before after old_faults new_faults lines history faults)
+verdict_refused status text evidence files size workers moment before after old_faults new_faults lines history faults refusals.Memory told refused empty are =
+    told_none status text (IsOpenCause evidence files size workers moment before after old_faults new_faults lines history faults) told
 verdict_refused status text evidence files size workers moment before after old_faults new_faults lines history faults (refusals.DepotFault fetch) told refused empty are =
-    told_end status text (IsOpenCause evidence files size workers moment before after old_faults new_faults lines history faults) OpenFault told (empty, record { fetch = fetch; refused = refused; shown = has_fetch evidence faults old_faults new_faults fetch are refused.0 })
-verdict_refused status text evidence files size workers moment before after old_faults new_faults lines history faults (refusals.Damaged name why) told refused empty are = told_end status text (IsOpenCause evidence files size workers moment before after old_faults new_faults lines history faults) (Damaged name) told (empty, (why, refused))
-verdict_refused status text evidence files size workers moment before after old_faults new_faults lines history faults (refusals.TermsSpent term) told refused empty are = told_end status text (IsOpenCause evidence files size workers moment before after old_faults new_faults lines history faults) NoTerm told (empty, (term, refused))
+    told_end status text (IsOpenCause evidence files size workers moment before after old_faults new_faults lines history faults) OpenFault told
+    (empty, record { fetch = fetch; refused = refused; shown = has_fetch evidence faults old_faults new_faults fetch are refused.0 })
+verdict_refused status text evidence files size workers moment before after old_faults new_faults lines history faults (refusals.Damaged name why) told refused empty are =
+    told_end status text (IsOpenCause evidence files size workers moment before after old_faults new_faults lines history faults) (Damaged name) told (empty, (why, refused))
+verdict_refused status text evidence files size workers moment before after old_faults new_faults lines history faults (refusals.TermsSpent term) told refused empty are =
+    told_end status text (IsOpenCause evidence files size workers moment before after old_faults new_faults lines history faults) NoTerm told (empty, (term, refused))
 
-pub verdict_stopped : {S F H T : Type 0} (status : ℕ) (text : Bytes) (evidence : Evidence S F H T) (given : Given) (files : Telling) (reader : ℕ) (before after : Look) (old_faults new_faults : ℕ) (history : List Entry) (faults : List (Fault S F H T)) (end : Option RunEnd)
+pub verdict_stopped : {S F H T : Type 0} (status : ℕ) (text : Bytes) (evidence : Evidence S F H T) (given : Given) (files : Telling)
+    (reader : ℕ) (before after : Look) (old_faults new_faults : ℕ) (history : List Entry) (faults : List (Fault S F H T)) (end : Option RunEnd)
     → IsTold status text end → StoppedBy (wanted_of (job_of given.words)) given.script given.faults reader end → IsUntouched files before after history faults
     → IsVerdict status text (IsCauseOf evidence given files reader before after old_faults new_faults history faults)
 verdict_stopped status text evidence given files reader before after old_faults new_faults history faults None told stop un = told_none status text (IsCauseOf evidence given files reader before after old_faults new_faults history faults) told
-verdict_stopped status text evidence given files reader before after old_faults new_faults history faults (Some BadWords) told stop un = told_end status text (IsCauseOf evidence given files reader before after old_faults new_faults history faults) BadWords told (un, stop)
-verdict_stopped status text evidence given files reader before after old_faults new_faults history faults (Some Unreadable) told stop un = told_end status text (IsCauseOf evidence given files reader before after old_faults new_faults history faults) Unreadable told (un, stop)
-verdict_stopped status text evidence given files reader before after old_faults new_faults history faults (Some BadScript) told stop un = told_end status text (IsCauseOf evidence given files reader before after old_faults new_faults history faults) BadScript told (un, stop)
-verdict_stopped status text evidence given files reader before after old_faults new_faults history faults (Some (BadLine number)) told stop un = told_end status text (IsCauseOf evidence given files reader before after old_faults new_faults history faults) (BadLine number) told (un, stop)
+verdict_stopped status text evidence given files reader before after old_faults new_faults history faults (Some BadWords) told stop un =
+    told_end status text (IsCauseOf evidence given files reader before after old_faults new_faults history faults) BadWords told (un, stop)
+verdict_stopped status text evidence given files reader before after old_faults new_faults history faults (Some Unreadable) told stop un =
+    told_end status text (IsCauseOf evidence given files reader before after old_faults new_faults history faults) Unreadable told (un, stop)
+verdict_stopped status text evidence given files reader before after old_faults new_faults history faults (Some BadScript) told stop un =
+    told_end status text (IsCauseOf evidence given files reader before after old_faults new_faults history faults) BadScript told (un, stop)
+verdict_stopped status text evidence given files reader before after old_faults new_faults history faults (Some (BadLine number)) told stop un =
+    told_end status text (IsCauseOf evidence given files reader before after old_faults new_faults history faults) (BadLine number) told (un, stop)
 verdict_stopped status text evidence given files reader before after old_faults new_faults history faults (Some OpenFault) told stop un = absurd stop
 verdict_stopped status text evidence given files reader before after old_faults new_faults history faults (Some (Damaged name)) told stop un = absurd stop
 verdict_stopped status text evidence given files reader before after old_faults new_faults history faults (Some NoTerm) told stop un = absurd stop
 verdict_stopped status text evidence given files reader before after old_faults new_faults history faults (Some (Carried script entries)) told stop un = absurd stop
 
 -- from the opening on, with the words and the script
-with_script : {S F H T : Type 0} (evidence : Evidence S F H T) (given : Given) (files : Telling) (reader size workers : ℕ) (before after : Look) (old_faults new_faults : ℕ) (lines : List ScriptLine) (history : List Entry) (faults : List (Fault S F H T)) (end : RunEnd)
+with_script : {S F H T : Type 0} (evidence : Evidence S F H T) (given : Given) (files : Telling) (reader size workers : ℕ) (before after : Look)
+    (old_faults new_faults : ℕ) (lines : List ScriptLine) (history : List Entry) (faults : List (Fault S F H T)) (end : RunEnd)
     → part_size_of (wanted_of (job_of given.words)) ≡ Some size → workers_of (job_of given.words) ≡ Some workers → IsScript given lines
     → IsOpenCause evidence files size workers given.moment before after old_faults new_faults lines history faults end → IsCauseOf evidence given files reader before after old_faults new_faults history faults end
 with_script evidence given files reader size workers before after old_faults new_faults lines history faults (Carried script entries) size_is workers_are is cause =
@@ -214,7 +237,8 @@ with_script evidence given files reader size workers before after old_faults new
 with_script evidence given files reader size workers before after old_faults new_faults lines history faults BadScript size_is workers_are is cause = absurd cause
 with_script evidence given files reader size workers before after old_faults new_faults lines history faults (BadLine number) size_is workers_are is cause = absurd cause
 
-pub verdict_opened : {S F H T : Type 0} (status : ℕ) (text : Bytes) (evidence : Evidence S F H T) (given : Given) (files : Telling) (reader size workers : ℕ) (before after : Look) (old_faults new_faults : ℕ) (lines : List ScriptLine) (history : List Entry) (faults : List (Fault S F H T))
+pub verdict_opened : {S F H T : Type 0} (status : ℕ) (text : Bytes) (evidence : Evidence S F H T) (given : Given) (files : Telling)
+    (reader size workers : ℕ) (before after : Look) (old_faults new_faults : ℕ) (lines : List ScriptLine) (history : List Entry) (faults : List (Fault S F H T))
     → part_size_of (wanted_of (job_of given.words)) ≡ Some size → workers_of (job_of given.words) ≡ Some workers → IsScript given lines
     → IsVerdict status text (IsOpenCause evidence files size workers given.moment before after old_faults new_faults lines history faults)
     → IsVerdict status text (IsCauseOf evidence given files reader before after old_faults new_faults history faults)
@@ -222,12 +246,14 @@ verdict_opened status text evidence given files reader size workers before after
 verdict_opened status text evidence given files reader size workers before after old_faults new_faults lines history faults size_is workers_are is (inr v) =
     inr (record { end = v.end; status_is = v.status_is; text_is = v.text_is; cause = with_script evidence given files reader size workers before after old_faults new_faults lines history faults v.end size_is workers_are is v.cause })
 
-pub run_opened : {S F H T : Type 0} (evidence : Evidence S F H T) (given : Given) (files : Telling) (size workers : ℕ) (lines : List ScriptLine) (before after : Look) (old_faults new_faults : ℕ) (history : List Entry) (faults : List (Fault S F H T))
+pub run_opened : {S F H T : Type 0} (evidence : Evidence S F H T) (given : Given) (files : Telling) (size workers : ℕ)
+    (lines : List ScriptLine) (before after : Look) (old_faults new_faults : ℕ) (history : List Entry) (faults : List (Fault S F H T))
     → IsScript given lines → part_size_of (wanted_of (job_of given.words)) ≡ Some size → workers_of (job_of given.words) ≡ Some workers
     → IsUnopened evidence files before after old_faults new_faults history faults ⊎ IsOpenedRun evidence files size workers given.moment lines before after history faults
     → IsRunOf evidence given files before after old_faults new_faults history faults
 run_opened evidence given files size workers lines before after old_faults new_faults history faults is size_is workers_are (inl unopened) = inr (inl unopened)
-run_opened evidence given files size workers lines before after old_faults new_faults history faults is size_is workers_are (inr run) = inr (inr (record { size = size; size_is = size_is; workers = workers; workers_are = workers_are; lines = lines; script = is; run = run }))
+run_opened evidence given files size workers lines before after old_faults new_faults history faults is size_is workers_are (inr run) =
+    inr (inr (record { size = size; size_is = size_is; workers = workers; workers_are = workers_are; lines = lines; script = is; run = run }))
 
 -- ---- printed
 

@@ -14,13 +14,11 @@ use Rattle.esr_complete.specs.Lines.{steps_of_item, steps_of}
 use Rattle.esr_complete.specs.Answers.{IsIdle}
 use Rattle.esr_verify.specs.Began.{HasBegun}
 use Rattle.esr_check.specs.Began.{HasEndedCheck}
+use Rattle.esr_drive.specs.Worked.{Answer}
 use Rattle.esr_run.specs.Waits.{owed_after, LineElects}
 use Rattle.esr_run.specs.Made.{MadeFirst, HasStopped, AreIn, LineMade, LineRests, LineSpends, WaitEnds, WasLookRefused, CheckEnds, VerifyBegins, AddsOnly, NoneOpen, AskedUnlessStopped}
 use Rattle.esr_run.specs.Verified.{MayVerify, VerifiesOn}
 use Rattle.esr_run.proofs.Making.{IsTold, LineEnded, Front, refused_line, line_counts, front_step, take_rest, AsksFirst, made_stopped, front_cut, ElectedOr}
-
-abbrev Answer : Type 0
-Answer = Result (Unit {0}) StepRefusal
 
 -- ---- an answer that the history tells
 
@@ -85,8 +83,10 @@ pub cut_by : (s : Start) (moment owed : ℕ) (item : Item) (left lines : List Sc
     → (item ≡ items.Check → CheckEnds mid new r) → (item ≡ items.Verify → VerifyBegins mid new r)
     → AddsOnly item mid new → NoneOpen s mid → (r ≡ Err steps.Memory) ⊎ (r ≡ Err steps.TurnsSpent) → s.alone ≡ true → AreIn s old → AskedUnlessStopped s old new
 cut_by s moment owed item left lines old mid new r f made checked begun only closed which alone none = elim which [
-  | inl memory ↦ front_cut s moment owed left lines item old mid new f (subst (LineMade s (steps_of_item moment item) mid new) memory made) only (λ check. subst (CheckEnds mid new) memory (checked check)) (λ verify. subst (VerifyBegins mid new) memory (begun verify)) closed alone none
-  | inr turns ↦ front_cut s moment owed left lines item old mid new f (subst (LineMade s (steps_of_item moment item) mid new) turns made) only (λ check. subst (CheckEnds mid new) turns (checked check)) (λ verify. subst (VerifyBegins mid new) turns (begun verify)) closed alone none
+  | inl memory ↦ front_cut s moment owed left lines item old mid new f (subst (LineMade s (steps_of_item moment item) mid new) memory made) only
+      (λ check. subst (CheckEnds mid new) memory (checked check)) (λ verify. subst (VerifyBegins mid new) memory (begun verify)) closed alone none
+  | inr turns ↦ front_cut s moment owed left lines item old mid new f (subst (LineMade s (steps_of_item moment item) mid new) turns made) only
+      (λ check. subst (CheckEnds mid new) turns (checked check)) (λ verify. subst (VerifyBegins mid new) turns (begun verify)) closed alone none
 ]
 
 pub turns_by : (new : List Moment) (r : Answer) → r ≡ Err steps.TurnsSpent → LineSpends new r → 2 ^ 33 ≤ length new

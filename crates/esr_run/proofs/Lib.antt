@@ -14,6 +14,8 @@ pub mod Unlisted
 pub mod Cleanups
 pub mod Told
 pub mod Leaving
+pub mod Fronts
+pub mod Long
 pub mod Completing
 pub mod Sourceless
 pub mod Undamaged

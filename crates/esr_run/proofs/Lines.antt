@@ -19,7 +19,8 @@ abbrev pub line_answer : {X : Type 0} → Result X StepRefusal → Result (Unit 
 line_answer (Ok x) = Ok tt
 line_answer (Err e) = Err e
 
-pub line_asked : {X : Type 0} (laws : StepsStay) (s : Start) (numbered : HasNoTickets s) (ops : Tracked s.world) (alone : s.alone ≡ true) (earlier : s.earlier_turns ≡ 0) (old new : List Moment) (step : Step) (ok : X → Reply) (result : Result X StepRefusal) → AsksLine step → ((x : X) → GivesNone (ok x))
+pub line_asked : {X : Type 0} (laws : StepsStay) (s : Start) (numbered : HasNoTickets s) (ops : Tracked s.world) (alone : s.alone ≡ true) (earlier : s.earlier_turns ≡ 0)
+    (old new : List Moment) (step : Step) (ok : X → Reply) (result : Result X StepRefusal) → AsksLine step → ((x : X) → GivesNone (ok x))
     → Outcome s old new 0 step ok result → LineAsked s old new (line_answer result)
 line_asked laws s numbered ops alone earlier old new step ok (Ok x) asks none h = record {
   rests = rests_by laws s numbered ops alone earlier old new step ok (Ok x) asks none h;

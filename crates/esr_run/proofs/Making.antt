@@ -2,7 +2,6 @@
 use Rattle.std.proofs.Common.{◌≡◌, ◌≢◌, ◌⊎◌, ◌||◌, ℕ, zero, suc, ◌+◌, ◌-◌, ◌^◌, ◌≤◌, take, take_all, true, false, List, [], ◌∷◌, ◌++◌, drop, ◌<◌, Bool, Some, slice_index_or, if◌then◌else◌, length, length-append, None, Option, Result, Ok, Err, OnOk, IfErr, IsErr, nat_cmp, append-nil, append_assoc, refl, sym, ap, ◌∙◌, subst, inl, inr, ⊎_elim, arith}
 use Rattle.std.specs.FinMap.{FinMap}
 use Rattle.std.specs.FinMap as fin
-use Rattle.esr_run.proofs.Parts.{in_left}
 use Rattle.esr_model.specs.Values.{Has, IndexRef, RootSnap, Formats}
 use Rattle.esr_core.specs.World.{World, Ticket, Reader}
 use Rattle.esr_core.specs.After.{after}
@@ -31,6 +30,7 @@ use Rattle.esr_run.specs.Laws.{StepsStay}
 use Rattle.esr_drive.specs.Elections.{WaitsOnly, elections, HasElected}
 use Rattle.esr_check.specs.Began.{HasEndedCheck}
 use Rattle.esr_script.specs.Kinds.{is_check}
+use Rattle.esr_model.specs.Lists.{Has-left}
 use Rattle.esr_run.specs.Checked.{asks_check}
 use Rattle.esr_run.specs.Waits.{owed_after, owed_then, LineElected, LineElects}
 use Rattle.esr_run.specs.Made.{MadeFirst, SomeStopped, HasStopped, HasNoReaders, AreIn, LineMade, LineRests, WaitEnds, NoneReady, AreElected, WaitEnded, WaitsEnded, Owes, AreMade, AreDone, NoneOpen, WasLeft, AreAsked, LineSpends, WasLookRefused, CheckEnded, ChecksEnded, AsksLine, LinePart, AreInParts, AskedApart, AddsOnly, IsWaiting, InOrStopped, WaitsOrStopped, AskedUnlessStopped}
@@ -195,7 +195,7 @@ stopped_stays s asked old new g (inl some) =
       some.0,
       record {
         moment = was.moment;
-        there = subst (λ (l : List Moment). Has l was.moment) (sym g.is) (in_left old g.more was.moment was.there);
+        there = subst (λ (l : List Moment). Has l was.moment) (sym g.is) (Has-left old g.more was.moment was.there);
         same = was.same;
         step = was.step;
         stops = was.stops;
@@ -239,7 +239,8 @@ wait_here s moment done item old mid new wait f g elected none ready = record {
   front = new;
   back = [];
   is = sym (append-nil new);
-  grew = subst (λ (l : List Step). GrewAsking s l old new) (ap (λ (i : Item). steps_of moment done ++ steps_of_item moment i) wait ∙ append-nil (steps_of moment done)) (asking_on s (steps_of moment done) (steps_of_item moment item) old mid new f g);
+  grew =
+      subst (λ (l : List Step). GrewAsking s l old new) (ap (λ (i : Item). steps_of moment done ++ steps_of_item moment i) wait ∙ append-nil (steps_of moment done)) (asking_on s (steps_of moment done) (steps_of_item moment item) old mid new f g);
   elected = elected;
   idle = record { none_out = none.tickets; no_reader = none.readers; none_ready = ready };
 }
@@ -413,7 +414,17 @@ pub record Front (s : Start) (moment owed : ℕ) (left lines : List ScriptLine) 
   pub apart : s.alone ≡ true → AreIn s old → AskedUnlessStopped s old new
 
 pub front_none : (s : Start) (moment : ℕ) (lines : List ScriptLine) (log : List Moment) → Front s moment 0 lines lines log log
-front_none s moment lines log = record { done = []; is = refl; grew = asking_none s log; elected = refl; checks = no_checks s moment log log; owed_is = refl; parts = refl; rests = λ alone none. inl (record { none_out = none; waits = no_waits s moment log log; apart = apart_none (AreIn s) (IsWaiting s) log }); apart = λ alone none. apart_none (InOrStopped s) (WaitsOrStopped s) log }
+front_none s moment lines log = record {
+  done = [];
+  is = refl;
+  grew = asking_none s log;
+  elected = refl;
+  checks = no_checks s moment log log;
+  owed_is = refl;
+  parts = refl;
+  rests = λ alone none. inl (record { none_out = none; waits = no_waits s moment log log; apart = apart_none (AreIn s) (IsWaiting s) log });
+  apart = λ alone none. apart_none (InOrStopped s) (WaitsOrStopped s) log;
+}
 
 -- no ticket is out, or the work was stopped; and a wait begins then where no verification is open
 in_or_stopped : (s : Start) (moment : ℕ) (done : List ScriptLine) (old new : List Moment) → Rested s moment done old new ⊎ HasStopped new → InOrStopped s new
@@ -506,7 +517,17 @@ front_all s moment owed left lines old new none f closed alone out =
     let elected : Owes owed lines old new = subst (λ (l : List ScriptLine). Owes owed l old new) all f.elected in
     let checks : ChecksEnded s moment lines old new = subst (λ (l : List ScriptLine). ChecksEnded s moment l old new) all f.checks in
     elim (f.rests alone out) [
-      | inl r ↦ inl (record { grew = grew; elected = elected; waits = subst (λ (l : List ScriptLine). WaitsEnded s moment l old new) all r.waits; checks = checks; owed_is = f.owed_is ∙ ap (owed_then 0) all; parts = subst (λ (l : List ScriptLine). AreInParts s moment 0 l old new) all f.parts; apart = r.apart; rests = r.none_out; closed = closed })
+      | inl r ↦ inl (record {
+        grew = grew;
+        elected = elected;
+        waits = subst (λ (l : List ScriptLine). WaitsEnded s moment l old new) all r.waits;
+        checks = checks;
+        owed_is = f.owed_is ∙ ap (owed_then 0) all;
+        parts = subst (λ (l : List ScriptLine). AreInParts s moment 0 l old new) all f.parts;
+        apart = r.apart;
+        rests = r.none_out;
+        closed = closed;
+      })
       | inr (inl was) ↦ inr (inl (record { grew = grew; elected = elected; checks = checks; closed = closed }, was))
       | inr (inr turns) ↦ inr (inr turns)
     ]
@@ -609,8 +630,8 @@ done_then s moment owed lines old mid new made g works counts done closes none =
 -- ---- by the answer of a line
 
 -- a line that stopped
-pub made_stopped : (s : Start) (moment owed : ℕ) (left lines : List ScriptLine) (wanted : List Step) (old mid new : List Moment) (e : StepRefusal) → AsksFirst moment left wanted → Front s moment owed left lines old mid → LineMade {X = Unit} s wanted mid new (Err e) → (e ≡ steps.Memory) ⊎ (e ≡ steps.TurnsSpent)
-    → MadeFirst s (steps_of moment lines) old new
+pub made_stopped : (s : Start) (moment owed : ℕ) (left lines : List ScriptLine) (wanted : List Step) (old mid new : List Moment) (e : StepRefusal) → AsksFirst moment left wanted → Front s moment owed left lines old mid
+    → LineMade {X = Unit} s wanted mid new (Err e) → (e ≡ steps.Memory) ⊎ (e ≡ steps.TurnsSpent) → MadeFirst s (steps_of moment lines) old new
 made_stopped s moment owed left lines wanted old mid new steps.Memory asks f made which = front_first s moment owed left lines wanted old mid new asks f made
 made_stopped s moment owed left lines wanted old mid new steps.TurnsSpent asks f made which = front_first s moment owed left lines wanted old mid new asks f made
 made_stopped s moment owed left lines wanted old mid new (steps.Refused refusal) asks f made which = absurd (⊎_elim (λ e. no_memory refusal e) (λ e. no_turns refusal e) which)

@@ -9,11 +9,12 @@ use Rattle.esr_script.specs.declared.item.ScriptLine.{ScriptLine}
 use Rattle.esr_script.specs.declared.refusal.Why.{Why}
 use Rattle.esr_script.specs.declared.refusal.ScriptRefusal.{ScriptRefusal}
 use Rattle.esr_script.specs.declared.refusal.ScriptRefusal.TheVariants.{TooLong, BadLine}
+use Rattle.esr_model.specs.Lists.{Has-append}
 use Rattle.esr_targets.specs.Lines.{AreNumbered}
 use Rattle.esr_run.specs.Asked.{Wanted, ReadScript, OneCommand, NoCommand, NoRun}
 use Rattle.esr_run.specs.Causes.{AreWanted, IsScriptFor}
 
-abbrev Read : Type 0
+abbrev pub Read : Type 0
 Read = Result (List ScriptLine) ScriptRefusal
 
 -- rising, and all below a number
@@ -21,16 +22,12 @@ record Rise (script : List ScriptLine) (number : ℕ) : Type 0 where
   numbered_so : AreNumbered script
   below : (line : ScriptLine) → Has script line → line.number < number
 
-in_either : (a : List ScriptLine) (x l : ScriptLine) → Has (a ++ x ∷ []) l → Has a l ⊎ (x ≡ l)
-in_either [] x l (inl e) = inr e
-in_either [] x l (inr h) = absurd h
-in_either (y ∷ a) x l (inl e) = inl (inl e)
-in_either (y ∷ a) x l (inr h) = ⊎_elim (λ a. inl (inr a)) (λ e. inr e) (in_either a x l h)
-
 with_last : (script : List ScriptLine) (x : ScriptLine) → AreNumbered script → ((line : ScriptLine) → Has script line → line.number < x.number) → AreNumbered (script ++ x ∷ [])
 with_last [] x h below = ((λ later m. absurd m), tt)
-with_last (y ∷ script) x h below =
-    ((λ later m. ⊎_elim (λ (was : Has script later). h.0 later was) (λ (e : x ≡ later). subst (λ (l : ScriptLine). y.number < l.number) e (below y (inl refl))) (in_either script x later m)), with_last script x h.1 (λ line m. below line (inr m)))
+with_last (y ∷ script) x h below = (
+  (λ later m. ⊎_elim (λ (was : Has script later). h.0 later was) (λ (e : x ≡ later). subst (λ (l : ScriptLine). y.number < l.number) e (below y (inl refl))) (Has-append script x later m)),
+  with_last script x h.1 (λ line m. below line (inr m)),
+)
 
 up_to : (script : List ScriptLine) (number : ℕ) → Rise script number → Rise script (number + 1)
 up_to script number r = record { numbered_so = r.numbered_so; below = λ line m. let b : line.number < number = r.below line m in omega (arith, b) }
@@ -44,7 +41,7 @@ one_more script number (Some item) r =
       below = λ line m. ⊎_elim
           (λ (was : Has script line). let b : line.number < number = r.below line was in omega (arith, b))
           (λ (e : x ≡ line). subst (λ (l : ScriptLine). l.number < number + 1) e (omega arith))
-          (in_either script x line m);
+          (Has-append script x line m);
     }
 
 no_ok : (why : ScriptRefusal) (out : List ScriptLine) → ◌≡◌ {A = Read} (Err why) (Ok out) → ⊥

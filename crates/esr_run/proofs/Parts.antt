@@ -1,10 +1,11 @@
 -- The parts of a history that lines have, where no look was refused.
-use Rattle.std.proofs.Common.{◌≡◌, ℕ, true, List, [], ◌∷◌, ◌++◌, append_assoc, refl, sym, ap, ◌∙◌, subst, inl, inr, ⊎_elim}
+use Rattle.std.proofs.Common.{◌≡◌, ℕ, true, List, [], ◌∷◌, ◌++◌, append_assoc, refl, sym, ap, ◌∙◌, subst, inl, ⊎_elim}
 use Rattle.esr_model.specs.Values.{Has}
 use Rattle.esr_core.specs.Entry.{Read, CheckedAll, ReadFails, Refused, DeposedAt, Moment}
 use Rattle.esr_script.specs.declared.item.Item.{Item}
 use Rattle.esr_script.specs.declared.item.Item.TheVariants as items
 use Rattle.esr_script.specs.declared.item.ScriptLine.{ScriptLine}
+use Rattle.esr_model.specs.Lists.{Has-left, Has-right}
 use Rattle.esr_desk.specs.Start.{Start}
 use Rattle.esr_quiet.specs.Asked.{asked_steps}
 use Rattle.esr_quiet.specs.Smooth.{NoneChecked}
@@ -23,15 +24,6 @@ tail_same x a b e = cc
 pub cancel : {A : Type 0} (old a b : List A) → old ++ a ≡ old ++ b → a ≡ b
 cancel [] a b e = e
 cancel (x ∷ old) a b e = cancel old a b (tail_same x (old ++ a) (old ++ b) e)
-
-pub in_left : (a b : List Moment) (m : Moment) → Has a m → Has (a ++ b) m
-in_left [] b m h = absurd h
-in_left (x ∷ a) b m (inl e) = inl e
-in_left (x ∷ a) b m (inr h) = inr (in_left a b m h)
-
-in_right : (a b : List Moment) (m : Moment) → Has b m → Has (a ++ b) m
-in_right [] b m h = h
-in_right (x ∷ a) b m h = inr (in_right a b m h)
 
 -- ---- the part of one line
 
@@ -96,7 +88,7 @@ whole s moment owed (line ∷ lines) old mid new tail alone (first, g, p, elects
         w.all,
         refl,
         g.asked alone,
-        is_part line.item old first g.more g.is p (λ m place h. never m place (subst (λ (l : List Moment). Has l m) (sym is_all) (in_right old (g.more ++ w.all) m (in_left g.more w.all m h)))),
+        is_part line.item old first g.more g.is p (λ m place h. never m place (subst (λ (l : List Moment). Has l m) (sym is_all) (Has-right old (g.more ++ w.all) m (Has-left g.more w.all m h)))),
         w.parts,
       );
     }

@@ -1,31 +1,12 @@
 -- A script that is read piece by piece.
-use Rattle.std.proofs.Common.{◌≡◌, ℕ, ◌+◌, ◌-◌, ◌≤◌, List, [], ◌∷◌, ◌++◌, length, take, drop, Option, Some, None, append_assoc, sym, ap, ◌∙◌, refl, subst, arith, append-nil}
+use Rattle.std.proofs.Common.{◌≡◌, ℕ, ◌+◌, ◌-◌, ◌≤◌, List, [], ◌∷◌, ◌++◌, length, take, drop, Option, Some, None, sym, ap, ◌∙◌, refl, subst, arith, append-nil}
 use Rattle.std.proofs.lemmas.Grind.{common_steps}
 use Rattle.std.proofs.lemmas.List.{take_all, length-append}
-use Rattle.std.specs.Io.KnownBytes.{Consumes, Keeps, IsAtEnd, Appends}
+use Rattle.std.specs.Io.KnownBytes.{Consumes, Keeps, IsAtEnd}
+use Rattle.std.proofs.KnownBytes.{Consumes-trans, Consumes-kept}
 use Rattle.esr_run.specs.Script.{AreBytes}
 use Rattle.esr_run.specs.Causes.{IsReadInPart}
 use Rattle.esr_run.specs.Stops.{IsKept}
-
-pub took_none : (old : Option (List ℕ)) → Consumes old old []
-took_none None = tt
-took_none (Some xs) = refl
-
-pub took_more : (old mid new : Option (List ℕ)) (first second : List ℕ) → Consumes old mid first → Consumes mid new second → Consumes old new (first ++ second)
-took_more None mid new first second a b = tt
-took_more (Some xs) None new first second a b = absurd a
-took_more (Some xs) (Some ys) None first second a b = absurd b
-took_more (Some xs) (Some ys) (Some zs) first second a b = a ∙ ap (λ (rest : List ℕ). first ++ rest) b ∙ sym (append_assoc first second zs)
-
-pub wrote_none : (old : Option (List ℕ)) → Appends old old []
-wrote_none None = tt
-wrote_none (Some xs) = sym (append-nil xs)
-
-pub wrote_more : (old mid new : Option (List ℕ)) (first second : List ℕ) → Appends old mid first → Appends mid new second → Appends old new (first ++ second)
-wrote_more None mid new first second a b = tt
-wrote_more (Some xs) None new first second a b = absurd a
-wrote_more (Some xs) (Some ys) None first second a b = absurd b
-wrote_more (Some xs) (Some ys) (Some zs) first second a b = b ∙ ap (λ (front : List ℕ). front ++ second) a ∙ append_assoc xs first second
 
 -- at its end all bytes were read
 pub read_whole : (old new : Option (List ℕ)) (whole : List ℕ) → Consumes old new whole → IsAtEnd new → AreBytes old whole
@@ -39,7 +20,7 @@ read_end first mid new kept piece took more none end few =
     let same : kept ++ piece ≡ kept = ap (λ (l : List ℕ). kept ++ l) none ∙ append-nil kept in
     record {
       bytes = kept;
-      bytes_are = read_whole first new kept (subst (λ (l : List ℕ). Consumes first new l) same (took_more first mid new kept piece took more)) end;
+      bytes_are = read_whole first new kept (subst (λ (l : List ℕ). Consumes first new l) same (Consumes-trans first mid new kept piece took more)) end;
       kept_is = sym (take_all 4194305 kept few);
     }
 
@@ -57,20 +38,14 @@ pub in_part : (old new : Option (List ℕ)) (kept : List ℕ) → Consumes old n
 in_part old new kept took few = record { bytes = kept; took = took; few = few }
 
 pub in_part_more : (old mid new : Option (List ℕ)) (kept piece : List ℕ) → Consumes old mid kept → Consumes mid new piece → length kept + length piece ≤ 4194305 → IsReadInPart old new
-in_part_more old mid new kept piece took more few = record { bytes = kept ++ piece; took = took_more old mid new kept piece took more; few = omega (arith, few, length-append kept piece) }
-
-kept_on : (old mid new : Option (List ℕ)) (kept : List ℕ) → Consumes old mid kept → Keeps mid new → Consumes old new kept
-kept_on None mid new kept took keeps = tt
-kept_on (Some xs) None new kept took keeps = absurd took
-kept_on (Some xs) (Some ys) None kept took keeps = absurd keeps
-kept_on (Some xs) (Some ys) (Some zs) kept took keeps = took ∙ ap (λ (l : List ℕ). kept ++ l) (sym keeps)
+in_part_more old mid new kept piece took more few = record { bytes = kept ++ piece; took = Consumes-trans old mid new kept piece took more; few = omega (arith, few, length-append kept piece) }
 
 pub nil_of : (xs : List ℕ) → length xs ≡ 0 → xs ≡ []
 nil_of [] e = refl
 nil_of (x ∷ xs) e = absurd (cc)
 
 pub in_part_kept : (old mid new : Option (List ℕ)) (kept : List ℕ) → Consumes old mid kept → Keeps mid new → length kept ≤ 4194305 → IsReadInPart old new
-in_part_kept old mid new kept took keeps few = in_part old new kept (kept_on old mid new kept took keeps) few
+in_part_kept old mid new kept took keeps few = in_part old new kept (Consumes-kept old mid new kept took keeps) few
 
 -- what a buffer has after a read
 pub buffer_after : (len : ℕ) (new old : List ℕ) → length new ≡ length old → len ≡ length old → take len (new ++ drop (length new) old) ≡ new

@@ -45,7 +45,8 @@ ByLines S F H T = (e : Evidence S F H T) (s : Start) (moment : ℕ) (lines : Lis
     → AreNumbered lines → asked_steps log ++ rest ≡ steps_of moment lines → AreTargetsOf e s log restored
     → AreTargetsOfLines e s moment lines log (sorted_by target_first (listed (ops_of_lines lines (entries_of log)) restored))
 
-module _ {S F H T : Type 0} (law : ByLines S F H T) (evidence : Evidence S F H T) (s : Start) (moment : ℕ) (lines : List ScriptLine) (log same : List Moment) (history : List Entry) (tracked : Tracked s.world) (reads : ReadTracked s.world) (legal : Legal s same) (numbered : AreNumbered lines)
+module _ {S F H T : Type 0} (law : ByLines S F H T) (evidence : Evidence S F H T) (s : Start) (moment : ℕ) (lines : List ScriptLine) (log same : List Moment)
+    (history : List Entry) (tracked : Tracked s.world) (reads : ReadTracked s.world) (legal : Legal s same) (numbered : AreNumbered lines)
     (made : MadeFirst s (steps_of moment lines) [] log) (alone : s.alone ≡ true) (is : same ≡ log) (entries : entries_of same ≡ history) (restored : List (RestoredTarget T)) (of : AreTargetsOf evidence s log restored) where
   by_law : AreTargetsOfLines evidence s moment lines same (sorted_by target_first (listed (ops_of_lines lines history) restored))
   by_law =
@@ -62,7 +63,8 @@ module _ {S F H T : Type 0} (law : ByLines S F H T) (evidence : Evidence S F H T
 
 -- ---- from the opening on
 
-pub opens_restored : {S F H T : Type 0} (laws : Laws) (kept : KeptLaws S F H T) (evidence : Evidence S F H T) (files : Telling) (size workers moment : ℕ) (lines : List ScriptLine) (quiet : Bool) (before mid after : Look) (k : Kept) (history : List Entry) (faults : List (Fault S F H T)) (targets : List (Restored T)) (status : ℕ)
+pub opens_restored : {S F H T : Type 0} (laws : Laws) (kept : KeptLaws S F H T) (evidence : Evidence S F H T) (files : Telling) (size workers moment : ℕ)
+    (lines : List ScriptLine) (quiet : Bool) (before mid after : Look) (k : Kept) (history : List Entry) (faults : List (Fault S F H T)) (targets : List (Restored T)) (status : ℕ)
     (o : IsOpening before mid k) → (2 ^ 62 ≤ before.sure → quiet ≡ true)
     → LegalRun (Begun files size quiet mid k) mid.clock after history → IsPast (Begun files size quiet mid k) mid.clock mid.since after history → AreShown evidence (Begun files size quiet mid k) (log_of after mid.clock history) faults
     → AreOnce (Begun files size quiet mid k) (log_of after mid.clock history) → AreTested (Begun files size quiet mid k) (log_of after mid.clock history) → NoneTwice (log_of after mid.clock history)
@@ -84,17 +86,20 @@ pub none_restored : {S F H T : Type 0} (evidence : Evidence S F H T) (given : Gi
     → history ≡ [] → targets ≡ [] → HasRestored evidence given files before after history faults targets status
 none_restored evidence given files before after history faults targets status empty none = inr (inl (empty, none))
 
-pub opens_none : {S F H T : Type 0} (evidence : Evidence S F H T) (files : Telling) (size workers moment : ℕ) (lines : List ScriptLine) (before after : Look) (history : List Entry) (faults : List (Fault S F H T)) (targets : List (Restored T)) (status : ℕ)
+pub opens_none : {S F H T : Type 0} (evidence : Evidence S F H T) (files : Telling) (size workers moment : ℕ) (lines : List ScriptLine)
+    (before after : Look) (history : List Entry) (faults : List (Fault S F H T)) (targets : List (Restored T)) (status : ℕ)
     → history ≡ [] → targets ≡ [] → OpensRestored evidence files size workers moment lines before after history faults targets status
 opens_none evidence files size workers moment lines before after history faults targets status empty none = inr (inl (empty, none))
 
 -- with the words and the script
-pub restored_opened : {S F H T : Type 0} (evidence : Evidence S F H T) (given : Given) (files : Telling) (size workers : ℕ) (lines : List ScriptLine) (before after : Look) (history : List Entry) (faults : List (Fault S F H T)) (targets : List (Restored T)) (status : ℕ)
+pub restored_opened : {S F H T : Type 0} (evidence : Evidence S F H T) (given : Given) (files : Telling) (size workers : ℕ)
+    (lines : List ScriptLine) (before after : Look) (history : List Entry) (faults : List (Fault S F H T)) (targets : List (Restored T)) (status : ℕ)
     → part_size_of (wanted_of (job_of given.words)) ≡ Some size → workers_of (job_of given.words) ≡ Some workers → IsScript given lines
     → OpensRestored evidence files size workers given.moment lines before after history faults targets status → HasRestored evidence given files before after history faults targets status
 restored_opened evidence given files size workers lines before after history faults targets status size_is workers_are is (inl wanting) = inl wanting
 restored_opened evidence given files size workers lines before after history faults targets status size_is workers_are is (inr (inl none)) = inr (inl none)
-restored_opened evidence given files size workers lines before after history faults targets status size_is workers_are is (inr (inr run)) = inr (inr (record { size = size; size_is = size_is; workers = workers; workers_are = workers_are; lines = lines; script = is; run = run.0 }, run.1))
+restored_opened evidence given files size workers lines before after history faults targets status size_is workers_are is (inr (inr run)) =
+    inr (inr (record { size = size; size_is = size_is; workers = workers; workers_are = workers_are; lines = lines; script = is; run = run.0 }, run.1))
 
 -- printed
 pub restored_printed : {S F H T : Type 0} (evidence : Evidence S F H T) (given : Given) (files : Telling) (before after : Look) (history : List Entry) (faults : List (Fault S F H T)) (targets : List (Restored T)) (status wanted : ℕ)

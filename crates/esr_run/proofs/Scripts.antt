@@ -1,12 +1,11 @@
 -- What is kept of a script asks for the same as the whole.
-use Rattle.std.proofs.Common.{◌≡◌, ℕ, ◌≤◌, ◌<◌, Bool, true, false, List, [], length, take, nat_lt, Option, Result, Err, if◌then◌else◌, refl, sym, ap, ◌∙◌, arith}
+use Rattle.std.proofs.Common.{◌≡◌, ℕ, ◌≤◌, ◌<◌, Bool, true, false, List, [], length, take, nat_lt, Option, Err, if◌then◌else◌, refl, sym, ap, ◌∙◌, arith}
 use Rattle.std.proofs.lemmas.List.{length-take, take_all}
 use Rattle.std.proofs.lemmas.Bool.{ltb-true, ltb-false, lt-ltb}
 use Rattle.esr_model.specs.Values.{Bytes}
 use Rattle.esr_script.specs.Lines.{lines_of}
 use Rattle.esr_script.specs.Script.{script_from, script_of}
 use Rattle.esr_script.specs.declared.item.ScriptLine.{ScriptLine}
-use Rattle.esr_script.specs.declared.refusal.ScriptRefusal.{ScriptRefusal}
 use Rattle.esr_script.specs.declared.refusal.ScriptRefusal.TheVariants.{TooLong}
 use Rattle.esr_run.specs.declared.stop.Stop.{Stop}
 use Rattle.esr_run.specs.declared.stop.Stop.TheVariants as stops
@@ -14,9 +13,7 @@ use Rattle.esr_run.specs.Script.{bad_line}
 use Rattle.esr_run.specs.Asked.{ReadScript}
 use Rattle.esr_run.specs.Causes.{IsScriptFor}
 use Rattle.esr_run.specs.Stops.{IsKept, IsBadIn, AreGood, end_of, StoppedBy}
-
-abbrev Read : Type 0
-Read = Result (List ScriptLine) ScriptRefusal
+use Rattle.esr_run.proofs.Numbering.{Read}
 
 too_long : (bytes : Bytes) → nat_lt 4194304 (length bytes) ≡ true → script_of bytes ≡ Err TooLong
 too_long bytes e = ap (λ (b : Bool). let r : Read = if b then Err TooLong else script_from [] 1 (lines_of bytes) in r) e

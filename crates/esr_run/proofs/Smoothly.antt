@@ -58,7 +58,8 @@ carried_status : (status : ℕ) (text : Bytes) (lines : List ScriptLine) (histor
 carried_status status text lines history (inl wanting) = inl wanting.0
 carried_status status text lines history (inr told) = inr told.0
 
-pub opens_well : {S F H T : Type 0} (laws : Laws) (kept : KeptLaws S F H T) (quiet_laws : QuietLaws S F H T) (evidence : Evidence S F H T) (files : Telling) (size workers moment : ℕ) (lines : List ScriptLine) (quiet : Bool) (before mid after : Look) (k : Kept) (history : List Entry) (faults : List (Fault S F H T))
+pub opens_well : {S F H T : Type 0} (laws : Laws) (kept : KeptLaws S F H T) (quiet_laws : QuietLaws S F H T) (evidence : Evidence S F H T) (files : Telling)
+    (size workers moment : ℕ) (lines : List ScriptLine) (quiet : Bool) (before mid after : Look) (k : Kept) (history : List Entry) (faults : List (Fault S F H T))
     (status : ℕ) (text : Bytes) (o : IsOpening before mid k) → (2 ^ 62 ≤ before.sure → quiet ≡ true)
     → LegalRun (Begun files size quiet mid k) mid.clock after history → IsPast (Begun files size quiet mid k) mid.clock mid.since after history → AreShown evidence (Begun files size quiet mid k) (log_of after mid.clock history) faults
     → AreOnce (Begun files size quiet mid k) (log_of after mid.clock history) → AreTested (Begun files size quiet mid k) (log_of after mid.clock history) → NoneTwice (log_of after mid.clock history)
@@ -69,14 +70,16 @@ pub opens_well : {S F H T : Type 0} (laws : Laws) (kept : KeptLaws S F H T) (qui
     → (status ≡ 8) ⊎ (AreDone (Begun files size quiet mid k) moment lines [] (log_of after mid.clock history) ⊎ HasFallen (Begun files size quiet mid k) moment lines [] (log_of after mid.clock history))
     → OpensWell evidence files size workers moment lines before after history faults status
 unfolding opened_run
-opens_well {S} {F} {H} {T} laws kept quiet_laws evidence files size workers moment lines quiet before mid after k history faults status text o quiet_is legal past shown once tested single removed calm made verified takes apart named told (inl wanting) quiet_for = inl wanting
-opens_well {S} {F} {H} {T} laws kept quiet_laws evidence files size workers moment lines quiet before mid after k history faults status text o quiet_is legal past shown once tested single removed calm made verified takes apart named told (inr done) quiet_for =
+opens_well {S} {F} {H} {T} laws kept quiet_laws evidence files size workers moment lines quiet before mid after k history faults status
+    text o quiet_is legal past shown once tested single removed calm made verified takes apart named told (inl wanting) quiet_for = inl wanting
+opens_well {S} {F} {H} {T} laws kept quiet_laws evidence files size workers moment lines quiet before mid after k history faults
+    status text o quiet_is legal past shown once tested single removed calm made verified takes apart named told (inr done) quiet_for =
     ⊎_elim
     (λ (wanting : status ≡ 8). inl wanting)
     (λ (is : status ≡ status_of (ending lines history)).
     inr (inr (
       opened_run laws kept evidence files size workers moment lines quiet before mid after k history faults o quiet_is legal past shown once tested single removed calm made verified takes apart,
-      completes quiet_laws evidence files size moment lines before after world mid.clock history faults (λ i e. o.opens i _ _ e) status
+      completes quiet_laws evidence files size workers moment lines before after world mid.clock history faults (λ i e. o.opens i _ _ e) status
           (subst (λ (s : Start). LegalRun s mid.clock after history) same legal).legal
           (subst (λ (s : Start). IsPast s mid.clock mid.since after history) same past).told
           (subst (λ (s : Start). AreShown {S = S} {F = F} {H = H} {T = T} evidence s (log_of after mid.clock history) faults) same shown)
@@ -87,7 +90,7 @@ opens_well {S} {F} {H} {T} laws kept quiet_laws evidence files size workers mome
           (subst (λ (s : Start). MadeFirst s (steps_of moment lines) [] (log_of after mid.clock history)) same made)
           (subst (λ (s : Start). AreClosed s (log_of after mid.clock history)) same verified.closed)
           (subst (λ (s : Start). AreDone s moment lines [] (log_of after mid.clock history) ⊎ HasFallen s moment lines [] (log_of after mid.clock history)) same done)
-          is takes.elects quiet_for,
+          is takes (subst (λ (s : Start). AskedUnlessStopped s [] (log_of after mid.clock history)) same apart) quiet_for,
     )))
     (carried_status status text lines history told)
   where
@@ -105,7 +108,8 @@ wanting_told status text (inl wanting) = wanting.0
 wanting_told status text (inr told) = told.0
 
 -- a container that is refused
-pub refused_well : {S F H T : Type 0} (evidence : Evidence S F H T) (files : Telling) (size workers moment : ℕ) (lines : List ScriptLine) (before mid after : Look) (old_faults new_faults : ℕ) (history : List Entry) (faults : List (Fault S F H T)) (status : ℕ) (text : Bytes) (refusal : OpenRefusal F)
+pub refused_well : {S F H T : Type 0} (evidence : Evidence S F H T) (files : Telling) (size workers moment : ℕ) (lines : List ScriptLine) (before mid after : Look)
+    (old_faults new_faults : ℕ) (history : List Entry) (faults : List (Fault S F H T)) (status : ℕ) (text : Bytes) (refusal : OpenRefusal F)
     → IsTold status text (end_of_refusal refusal) → IsOpenRefused evidence.fetch_faults before mid old_faults new_faults refusal → (2 ^ 61 ≤ before.sure → (fetch : Option F) → refusal ≡ refusals.DepotFault fetch → ⊥)
     → OpensWell evidence files size workers moment lines before after history faults status
 refused_well evidence files size workers moment lines before mid after old_faults new_faults history faults status text refusals.Memory told refused sure quiet_for = inl (wanting_told status text told)
@@ -137,7 +141,8 @@ same_wanted (OneCommand size item) script old new a b reads first second = first
 same_wanted NoCommand script old new a b reads first second = absurd first
 same_wanted NoRun script old new a b reads first second = absurd first
 
-pub complete_opened : {S F H T : Type 0} (evidence : Evidence S F H T) (given : Given) (files : Telling) (reader size workers : ℕ) (lines : List ScriptLine) (before after : Look) (old_out new_out : ℕ) (history : List Entry) (faults : List (Fault S F H T)) (status : ℕ)
+pub complete_opened : {S F H T : Type 0} (evidence : Evidence S F H T) (given : Given) (files : Telling) (reader size workers : ℕ)
+    (lines : List ScriptLine) (before after : Look) (old_out new_out : ℕ) (history : List Entry) (faults : List (Fault S F H T)) (status : ℕ)
     → part_size_of (wanted_of (job_of given.words)) ≡ Some size → workers_of (job_of given.words) ≡ Some workers → IsScript given lines → OpensWell evidence files size workers given.moment lines before after history faults status
     → IsComplete evidence given files reader before after old_out new_out history faults status
 complete_opened {S} {F} {H} {T} evidence given files reader size workers lines before after old_out new_out history faults status size_is workers_are script well asked smooth =
@@ -179,20 +184,23 @@ not_stopped wanted script old new lines (Damaged name) reads is stop = stop
 not_stopped wanted script old new lines NoTerm reads is stop = stop
 not_stopped wanted script old new lines (Carried entries history) reads is stop = stop
 
-pub complete_stopped : {S F H T : Type 0} (evidence : Evidence S F H T) (given : Given) (files : Telling) (reader : ℕ) (before after : Look) (old_out new_out : ℕ) (history : List Entry) (faults : List (Fault S F H T)) (status : ℕ) (text : Bytes) (end : Option RunEnd)
+pub complete_stopped : {S F H T : Type 0} (evidence : Evidence S F H T) (given : Given) (files : Telling) (reader : ℕ) (before after : Look)
+    (old_out new_out : ℕ) (history : List Entry) (faults : List (Fault S F H T)) (status : ℕ) (text : Bytes) (end : Option RunEnd)
     → IsTold status text end → StoppedBy (wanted_of (job_of given.words)) given.script given.faults reader end → IsComplete evidence given files reader before after old_out new_out history faults status
 complete_stopped evidence given files reader before after old_out new_out history faults status text None told stop lines smooth = inl (wanting_told status text told)
 complete_stopped evidence given files reader before after old_out new_out history faults status text (Some end) told stop lines smooth =
     absurd (not_stopped (wanted_of (job_of given.words)) given.script given.faults reader lines end smooth.reads smooth.script stop)
 
 -- memory was wanting
-pub complete_wanting : {S F H T : Type 0} (evidence : Evidence S F H T) (given : Given) (files : Telling) (reader : ℕ) (before after : Look) (old_out new_out : ℕ) (history : List Entry) (faults : List (Fault S F H T)) (status : ℕ) (text : Bytes)
+pub complete_wanting : {S F H T : Type 0} (evidence : Evidence S F H T) (given : Given) (files : Telling) (reader : ℕ)
+    (before after : Look) (old_out new_out : ℕ) (history : List Entry) (faults : List (Fault S F H T)) (status : ℕ) (text : Bytes)
     → IsTold status text None → IsComplete evidence given files reader before after old_out new_out history faults status
 complete_wanting evidence given files reader before after old_out new_out history faults status text told lines smooth = inl (wanting_told status text told)
 
 -- ---- printed
 
-pub complete_printed : {S F H T : Type 0} (evidence : Evidence S F H T) (given : Given) (files : Telling) (reader : ℕ) (before after : Look) (old_out new_out : ℕ) (history : List Entry) (faults : List (Fault S F H T)) (status wanted : ℕ) (text : Bytes) (old new : Option Bytes)
+pub complete_printed : {S F H T : Type 0} (evidence : Evidence S F H T) (given : Given) (files : Telling) (reader : ℕ) (before after : Look)
+    (old_out new_out : ℕ) (history : List Entry) (faults : List (Fault S F H T)) (status wanted : ℕ) (text : Bytes) (old new : Option Bytes)
     → IsComplete evidence given files reader before after old_out new_out history faults wanted → IsPrinted status wanted text old new old_out new_out → IsComplete evidence given files reader before after old_out new_out history faults status
 complete_printed {S} {F} {H} {T} evidence given files reader before after old_out new_out history faults status wanted text old new complete (inl done) lines smooth =
     subst (λ (n : ℕ). IsComplete {S = S} {F = F} {H = H} {T = T} evidence given files reader before after old_out new_out history faults n) (sym done.0) complete lines smooth

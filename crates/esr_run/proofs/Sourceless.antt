@@ -20,7 +20,8 @@ use Rattle.esr_run.specs.Sourceless.{AreWithoutSnapshot, NeedsNoSource}
 use Rattle.esr_run.proofs.Completing.{asked_true, in_asked, in_wanted, of_line}
 
 -- what another item asks for is no snapshot
-none_asked : (moment : ℕ) (item : Item) (name : Bytes) (indices : List AskedIndex) (when : ℕ) → ((called : Bytes) (of : List LineIndex) → item ≡ items.Snapshot called of → ⊥) → Has (steps_of_item moment item) (AskStep (Snapshot name indices when)) → ⊥
+none_asked : (moment : ℕ) (item : Item) (name : Bytes) (indices : List AskedIndex) (when : ℕ) → ((called : Bytes) (of : List LineIndex) → item ≡ items.Snapshot called of → ⊥)
+    → Has (steps_of_item moment item) (AskStep (Snapshot name indices when)) → ⊥
 none_asked moment item name indices when none h =
     let (of, is, same) = snapshot_item moment item name indices when (only_step moment item (AskStep (Snapshot name indices when)) h) in
     none name of is

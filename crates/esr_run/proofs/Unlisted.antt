@@ -9,7 +9,6 @@ use Rattle.serde_json.specs.Data.{Data}
 use Rattle.esr_names.specs.declared.ids.Id.{Id}
 use Rattle.esr_json.specs.declared.key.Key.TheVariants as keys
 use Rattle.esr_json.specs.declared.refusal.Reason.{Reason}
-use Rattle.esr_json.specs.Steps.{◌>>=◌}
 use Rattle.esr_json.specs.Access.{parsed, items_at, members_at}
 use Rattle.esr_root.specs.Ids.{same_id, has_id, repeats}
 use Rattle.esr_root.specs.Snaps.{lists}
@@ -18,6 +17,7 @@ use Rattle.esr_root.specs.Reading as reading
 use Rattle.esr_root.specs.Reading.{snaps_from, index_of, checked, kept, indices_from, root_from}
 use Rattle.esr_root.specs.declared.snaps.RootSnap.{RootSnap as CodeSnap}
 use Rattle.esr_root.specs.declared.indices.RootIndex.{RootIndex as CodeIndex}
+use Rattle.esr_root.specs.ReadRoots.{bind_ok, unless_ok}
 use Rattle.esr_model.specs.Values.{Bytes, Has, RootIndex, RootData}
 use Rattle.esr_formats.specs.Ids.{number_of}
 use Rattle.esr_formats.specs.Roots.{root_snap_of, root_index_of, root_of, root_kind}
@@ -27,17 +27,9 @@ use Rattle.esr_run.specs.Start.{Telling, formats_by}
 
 -- ---- steps that were Ok
 
-bind_ok : {A B : Type 0} (r : Result A Reason) (f : A → Result B Reason) (y : B) → (r >>= f) ≡ Ok y → (x : A) × (r ≡ Ok x) × (f x ≡ Ok y)
-bind_ok (Ok x) f y h = (x, refl, h)
-bind_ok (Err e) f y h = absurd cc
-
 guard_ok : {A : Type 0} (b : Bool) (e : Reason) (r : Result A Reason) (y : A) → cond b (Err e) r ≡ Ok y → r ≡ Ok y
 guard_ok true e r y h = absurd cc
 guard_ok false e r y h = h
-
-when_ok : {A : Type 0} (b : Bool) (e : Reason) (x y : A) → cond b (Ok x) (Err e) ≡ Ok y → (b ≡ true) × (x ≡ y)
-when_ok true e x y h = (refl, cc)
-when_ok false e x y h = absurd cc
 
 -- ---- lists
 
@@ -56,7 +48,7 @@ EachListed snaps is = (i : CodeIndex) → Has is i → AreListed snaps i
 
 checked_listed : (snaps : List CodeSnap) (ids : List Id) (i j : CodeIndex) → checked snaps ids i ≡ Ok j → (i ≡ j) × AreListed snaps i
 checked_listed snaps ids i j h =
-    let one = when_ok (list_all (lists snaps) i.snapshots) _ i j (guard_ok (has_id i.id ids || repeats i.snapshots) _ _ j h) in
+    let one = unless_ok (list_all (lists snaps) i.snapshots) _ i j (guard_ok (has_id i.id ids || repeats i.snapshots) _ _ j h) in
     (one.1, all_pass (lists snaps) i.snapshots one.0)
 
 push_listed : (snaps : List CodeSnap) (is : List CodeIndex) (x : CodeIndex) → EachListed snaps is → AreListed snaps x → EachListed snaps (is ++ x ∷ [])

@@ -162,7 +162,8 @@ work_closed s log m (inr (inr elect)) who asks = absurd (true≢false (sym asks 
 
 whole_more : (s : Start) (workers : ℕ) (checks : Bool) (log more : List Moment) → AllOfWait more → AreWhole s workers checks log → AreWhole s workers checks (log ++ more)
 whole_more s workers checks log [] work w = subst (AreWhole s workers checks) (sym (append-nil log)) w
-whole_more s workers checks log (m ∷ more) work w = subst (AreWhole s workers checks) (append_assoc log (m ∷ []) more) (whole_more s workers checks (log ++ m ∷ []) more work.1 (whole_one s workers checks log m (work_aside m work.0) (work_closed s log m work.0) w))
+whole_more s workers checks log (m ∷ more) work w =
+    subst (AreWhole s workers checks) (append_assoc log (m ∷ []) more) (whole_more s workers checks (log ++ m ∷ []) more work.1 (whole_one s workers checks log m (work_aside m work.0) (work_closed s log m work.0) w))
 
 pub waits_may : (leaves : WorkLeaves) (s : Start) (workers : ℕ) (checks : Bool) (old new : List Moment) → WaitsOnly old new → (Legal s old → Legal s new) → MayVerify s workers checks old → MayVerify s workers checks new
 waits_may leaves s workers checks old new w legal may =
@@ -575,8 +576,8 @@ verify_well s none_zero workers checks old new asks ok legal may = record {
   legal = legal may.legal;
 }
 
-pub verify_refused : {S F H T : Type 0} (evidence : Evidence S F H T) (s : Start) → NoneZero s → (workers : ℕ) (checks : Bool) (old new : List Moment) (e : UnitRefusal) → AsksOne {X = Unit} old new (Err e) → IsVerifyRefused evidence s old new e → NoneVerified old new
-    → (Legal s old → Legal s new) → MayVerify s workers checks old → VerifiesOn s workers checks new (line_result (Err e))
+pub verify_refused : {S F H T : Type 0} (evidence : Evidence S F H T) (s : Start) → NoneZero s → (workers : ℕ) (checks : Bool) (old new : List Moment) (e : UnitRefusal) → AsksOne {X = Unit} old new (Err e)
+    → IsVerifyRefused evidence s old new e → NoneVerified old new → (Legal s old → Legal s new) → MayVerify s workers checks old → VerifiesOn s workers checks new (line_result (Err e))
 verify_refused evidence s none_zero workers checks old new (units.Failed why) asks err none legal may = record {
   whole = begun_whole s none_zero workers checks old new asks (err_verified s workers old new none may.whole.verified) legal may;
   idle = subst IsIdle (sym err.0) none_idle;

@@ -334,7 +334,7 @@ end_of_refusal (refusals.TermsSpent term) = Some NoTerm
 abbrev pub OpensWell : {S F H T : Type 0} → Evidence S F H T → Telling → ℕ → ℕ → ℕ → List ScriptLine → Look → Look → List Entry → List (Fault S F H T) → ℕ → Type 0
 OpensWell evidence files size workers moment lines before after history faults status =
     IsQuietFor files before lines
-    → (status ≡ 8) ⊎ (IsLastTerm before ⊎ ((r : IsOpenedRun evidence files size workers moment lines before after history faults) × Completes files size moment lines before r.world r.clock after history status))
+    → (status ≡ 8) ⊎ (IsLastTerm before ⊎ ((r : IsOpenedRun evidence files size workers moment lines before after history faults) × Completes files size workers moment lines before r.world r.clock after history status))
 
 -- the script is told, and no read of it failed
 pub record IsReadWell (script : Option Bytes) (old new : ℕ) : Type 0 where
@@ -355,4 +355,4 @@ pub record IsSmoothFor (given : Given) (files : Telling) (before : Look) (reader
 abbrev pub IsComplete : {S F H T : Type 0} → Evidence S F H T → Given → Telling → ℕ → Look → Look → ℕ → ℕ → List Entry → List (Fault S F H T) → ℕ → Type 0
 IsComplete evidence given files reader before after old_out new_out history faults status =
     (lines : List ScriptLine) → IsSmoothFor given files before reader old_out new_out lines
-    → (status ≡ 8) ⊎ (IsLastTerm before ⊎ ((c : IsCarried evidence given files before after history faults) × Completes files c.size given.moment c.lines before c.run.world c.run.clock after history status))
+    → (status ≡ 8) ⊎ (IsLastTerm before ⊎ ((c : IsCarried evidence given files before after history faults) × Completes files c.size c.workers given.moment c.lines before c.run.world c.run.clock after history status))

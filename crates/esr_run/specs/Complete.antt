@@ -1,11 +1,14 @@
 -- Completeness: what a run ends with where nothing fails.
-use Rattle.std.specs.Prelude.{◌≡◌, ◌⊎◌, ℕ, ◌+◌, ◌^◌, ◌<◌, ◌≤◌, true, List, [], length, Some, Err}
-use Rattle.esr_model.specs.Values.{Bytes, Has}
+use Rattle.std.specs.Prelude.{◌≡◌, ◌⊎◌, ℕ, ◌+◌, ◌*◌, ◌^◌, ◌<◌, ◌≤◌, true, List, [], ◌++◌, length, Some, Err}
+use Rattle.esr_model.specs.Values.{Bytes, Has, Formats}
 use Rattle.esr_model.specs.Shelf.{Shelved}
 use Rattle.esr_core.specs.World.{World}
 use Rattle.esr_core.specs.Entry.{GenerationsSpent, TermsSpent, IdsSpent, Reply, Refused, Entry, Moment}
 use Rattle.esr_core.specs.History.{AllKnown}
 use Rattle.esr_law.specs.Spent.{generations_in, ids_in}
+use Rattle.esr_bounds.specs.Work.{asks_in, elections_in, restores_in}
+use Rattle.esr_bounds.specs.Clients.{draws_in, looks_in, empty_in}
+use Rattle.esr_bounds.specs.Others.{lost_in, most_shards, most_of_all}
 use Rattle.esr_depot.specs.Image.{Image as Held}
 use Rattle.esr_depot.specs.Look.{Look, now}
 use Rattle.esr_script.specs.declared.item.AskedIndex.{AskedIndex}
@@ -16,11 +19,13 @@ use Rattle.esr_report.specs.Status.{ending, status_of}
 use Rattle.esr_desk.specs.Start.{Start}
 use Rattle.esr_opening.specs.Found.{LastTerm, found}
 use Rattle.esr_repo.specs.Log.{log_of}
+use Rattle.esr_quiet.specs.Askers.{AsksOrElects}
 use Rattle.esr_complete.specs.Answers.{AreAnswered, EndsWell}
-use Rattle.esr_complete.specs.Lines.{failovers_of}
+use Rattle.esr_complete.specs.Lines.{steps_of, failovers_of}
 use Rattle.esr_run.specs.Start.{Telling, formats_by, start_of}
 use Rattle.esr_run.specs.Images.{Holds}
 use Rattle.esr_run.specs.Made.{WaitsEnded}
+use Rattle.esr_run.specs.Waits.{waits_of}
 
 -- each shard for which the lines ask is there
 abbrev pub AreThere : Telling → List ScriptLine → Type 0
@@ -49,9 +54,31 @@ SpentBy world lines log (Refused (GenerationsSpent pending)) = 2 ^ 63 ≤ world.
 SpentBy world lines log (Refused (IdsSpent next)) = 2 ^ 64 ≤ ids_in log
 SpentBy world lines log reply = ⊥
 
--- a number was spent; or 2 ^ 33 entries were made, and the run ended neither with 0 nor with 1
-abbrev pub HasSpent : World → List ScriptLine → List Moment → List Entry → ℕ → Type 0
-HasSpent world lines log history status = ((m : Moment) × Has log m × SpentBy world lines log m.entry.reply) ⊎ ((2 ^ 33 ≤ length history) × (2 ≤ status))
+-- who 0 alone asks for commands, and elects
+abbrev pub AreOfClient : List Moment → Type 0
+AreOfClient log = (m : Moment) → Has log m → AsksOrElects m.entry.step → m.entry.who ≡ 0
+
+-- What the history asks for up to its first 2 ^ 33 entries makes as many steps, from the opened world on. Up to there commands, looks and
+-- draws of verifications are no more than the steps for which the lines ask, elections than their failovers, and takes that found no unit
+-- ready than their waits and the end let each worker make; each accepted restore has no more shards than the opened root and what is asked
+-- have; and each fetch of a restore, a check or a verification found its blob.
+pub record AsksMuch (f : Formats) (size workers moment : ℕ) (world : World) (lines : List ScriptLine) (log : List Moment) : Type 0 where
+  pub front : List Moment
+  pub back : List Moment
+  pub is : log ≡ front ++ back
+  pub just : length front ≡ 2 ^ 33
+  pub own : AreOfClient front
+  pub asks : asks_in front + (looks_in front + draws_in front) ≤ length (steps_of moment lines)
+  pub elects : elections_in front ≤ failovers_of lines
+  pub takes : empty_in front ≤ waits_of workers lines + workers
+  pub restores : restores_in front ≤ asks_in front * most_shards world front
+  pub found : lost_in front ≡ 0
+  pub much : 2 ^ 33 ≤ most_of_all f size world front
+
+-- A number was spent; or 2 ^ 33 entries were made, for which the history asks, and the run ended neither with 0 nor with 1.
+abbrev pub HasSpent : Formats → ℕ → ℕ → ℕ → World → List ScriptLine → List Moment → List Entry → ℕ → Type 0
+HasSpent f size workers moment world lines log history status =
+    ((m : Moment) × Has log m × SpentBy world lines log m.entry.reply) ⊎ ((2 ^ 33 ≤ length history) × (2 ≤ status) × AsksMuch f size workers moment world lines log)
 
 -- the record has the last term
 abbrev pub IsLastTerm : Look → Type 0
@@ -65,7 +92,8 @@ pub record IsAnsweredWell (s : Start) (moment : ℕ) (lines : List ScriptLine) (
   pub waits : WaitsEnded s moment lines [] log
 
 -- each line is answered well, unless a number was spent, where the sources tell all files
-abbrev pub Completes : Telling → ℕ → ℕ → List ScriptLine → Look → World → ℕ → Look → List Entry → ℕ → Type 0
-Completes telling size moment lines before world clock after history status =
+abbrev pub Completes : Telling → ℕ → ℕ → ℕ → List ScriptLine → Look → World → ℕ → Look → List Entry → ℕ → Type 0
+Completes telling size workers moment lines before world clock after history status =
     AllKnown (formats_by telling)
-    → HasSpent world lines (log_of after clock history) history status ⊎ (IsAnsweredWell (start_of telling size true before world) moment lines (log_of after clock history) history × (status ≡ status_of (ending lines history)))
+    → HasSpent (formats_by telling) size workers moment world lines (log_of after clock history) history status
+    ⊎ (IsAnsweredWell (start_of telling size true before world) moment lines (log_of after clock history) history × (status ≡ status_of (ending lines history)))

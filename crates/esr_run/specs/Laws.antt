@@ -1,5 +1,5 @@
 -- The laws of the core on which a run rests.
-use Rattle.std.specs.Prelude.{◌≡◌, ◌≢◌, ◌⊎◌, ℕ, suc, ◌≤◌, List, [], ◌∷◌, ◌++◌, Some, true, false}
+use Rattle.std.specs.Prelude.{◌≡◌, ◌≢◌, ◌⊎◌, ℕ, suc, ◌+◌, ◌*◌, ◌≤◌, List, [], ◌∷◌, ◌++◌, length, Some, true, false}
 use Rattle.std.specs.FinMap as fin
 use Rattle.esr_model.specs.Values.{Has, Formats, ReadsBack, RootData, ClusterRecord}
 use Rattle.esr_model.specs.Image.{Image, Blobs}
@@ -12,6 +12,10 @@ use Rattle.esr_core.specs.History.{world_from, IsLegal, TellsHandedOut, AreTold,
 use Rattle.esr_core.specs.Sources.{HonestUploads, AreOfSources, AreOfOps}
 use Rattle.esr_law.specs.Digests.{AskNoSnapshot, AreClones, IsWholeByDigests}
 use Rattle.esr_law.specs.Spent.{SpentSo}
+use Rattle.esr_law.specs.Reach.{RefusesUnlisted}
+use Rattle.esr_bounds.specs.Work.{asks_in, restores_in}
+use Rattle.esr_bounds.specs.Clients.{commands_in, draws_in, looks_in}
+use Rattle.esr_bounds.specs.Others.{lost_in, most_shards, most_of_all}
 use Rattle.esr_core.specs.Ids.{Law}
 use Rattle.esr_core.specs.Allowed.{Allowed}
 use Rattle.esr_core.specs.Causes.{TakeGave}
@@ -20,13 +24,14 @@ use Rattle.esr_core.specs.Ranked.{Ranked}
 use Rattle.esr_core.specs.ReadTracked.{ReadTracked}
 use Rattle.esr_core.specs.Left.{Leaves, safe_in}
 use Rattle.esr_core.specs.Refusing.{RefusedSo, SwapFailed}
-use Rattle.esr_desk.specs.Start.{Start, Legal, no_ticket, ticket_of}
+use Rattle.esr_desk.specs.Start.{Start, Legal, formats_of, no_ticket, ticket_of}
 use Rattle.esr_desk.specs.Once.{NoneTwice}
 use Rattle.esr_desk.specs.declared.fault.Fault.{Fault}
 use Rattle.esr_desk.specs.Evidence.{Evidence}
 use Rattle.esr_desk.specs.declared.hand.Hand.TheVariants as hands
 use Rattle.esr_script.specs.declared.item.ScriptLine.{ScriptLine}
 use Rattle.esr_report.specs.Replies.{replies}
+use Rattle.esr_quiet.specs.Asked.{asked_steps}
 use Rattle.esr_quiet.specs.Caused.{AreCaused}
 use Rattle.esr_quiet.specs.Numbers.{HasNoTickets}
 use Rattle.esr_quiet.specs.OverKept.{OverKept}
@@ -96,7 +101,13 @@ pub record QuietLaws (S F H T : Type 0) : Type 0 where
   pub restores : (e : Evidence S F H T) (s : Start) (log : List Moment) (faults : List (Fault S F H T)) → IsSmooth s log → s.sure_targets ≡ true → AreCaused hands.Restore e s log faults → NoneUnrestored log
   pub unasked : (s : Start) (log : List Moment) → IsSmooth s log → NoneAsked log → NoneUnrestored log
   pub verifies : (e : Evidence S F H T) (s : Start) (log : List Moment) (faults : List (Fault S F H T)) → IsSmooth s log → AreCaused hands.Check e s log faults → NoneUnverified log
-  pub rules : (s : Start) (log : List Moment) → IsSmooth s log → NoneFailed log → AreByRule s log
+  pub rules : (s : Start) (log : List Moment) → IsSmooth s log → AreByRule s log
+  -- who 0 asks for no more than what lines ask for
+  pub asks : (log : List Moment) → commands_in log + (looks_in log + draws_in log) ≤ length (asked_steps log)
+  -- none of its fetches is lost, its restores have few shards, and it is no longer than what it asks for
+  pub found : (s : Start) (log : List Moment) → IsSmooth s log → lost_in log ≡ 0
+  pub restored : (s : Start) (log : List Moment) → IsSmooth s log → restores_in log ≤ asks_in log * most_shards s.world log
+  pub short : (s : Start) (log : List Moment) → IsSmooth s log → RefusesUnlisted (formats_of s) → length log ≤ most_of_all (formats_of s) s.part_size s.world log
   pub answered : (s : Start) (log : List Moment) (lines : List ScriptLine) (moment : ℕ) → IsFaultFreeRun s log lines moment → AreAnswered lines (replies lines (entries_of log))
   pub ends : (s : Start) (log : List Moment) (lines : List ScriptLine) (moment : ℕ) → IsFaultFreeRun s log lines moment → EndsWell lines (entries_of log)
   -- which number is spent where a step is refused so

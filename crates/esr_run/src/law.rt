@@ -80,6 +80,10 @@ pub(crate) fn quiet_laws<S, F, H, T>()
     esr_quiet::no_unasked_restore_fails();
     esr_quiet::no_check_fails::<S, F, H, T>();
     esr_quiet::only_rules_refuse();
+    esr_complete::each_command_is_asked();
+    esr_complete::smooth_runs_lose_nothing();
+    esr_complete::smooth_runs_restore_few();
+    esr_complete::smooth_runs_are_short();
     esr_complete::smooth_runs_are_answered();
     esr_law::only_spent_numbers_refuse();
     esr_core::answers_tell_their_steps();

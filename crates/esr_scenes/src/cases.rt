@@ -1,6 +1,7 @@
 //! Cases are played. They stand apart by empty lines. The first line of one is `KIND NAME: SENTENCE`, and each other is
 //! `LINE = ANSWER`, or a line without an answer. A line that begins with `#` is a remark. What has the kind `container` is no case:
 //! its lines are for cases that name it.
+use crate::play::complain;
 use std::alloc::Global;
 use std::io;
 use std::process::ExitCode;
@@ -59,12 +60,16 @@ fn cut_answer(line: &str) -> (&str, &str) {
 
 /// Prints that the line of that number, in the case of that name, is answered otherwise than it says.
 fn tell_wrong(
-    rt: &impl Print,
+    rt: &(impl Print + Eprint),
+    alloc: Global,
     (name, number): (&str, u64),
     (asked, wanted): (&str, &str),
     came: &str,
 ) -> io::Result<()> {
-    println!(rt; "{name}, line {number}: {asked}\n  wanted: {wanted}\n  came: {came}")
+    let text = format!(in alloc;
+        "{asked}\n  {name}, line {number}\n  wanted: {wanted}\n  came:   {came}\n"
+    )?;
+    complain(rt, text.as_str())
 }
 
 impl Counts {
@@ -77,7 +82,7 @@ impl Counts {
     /// says it prints so.
     fn play<P: CasePlayer>(
         &mut self,
-        rt: &impl Print,
+        rt: &(impl Print + Eprint),
         alloc: Global,
         cases: &str,
         case: Case<'_>,
@@ -98,7 +103,8 @@ impl Counts {
             let is_wrong = came.as_str() != wanted;
             self.count(!wanted.is_empty(), is_wrong);
             if is_wrong {
-                tell_wrong(rt, (case.name, number), (asked, wanted), came.as_str())?;
+                let at = (case.name, number);
+                tell_wrong(rt, alloc, at, (asked, wanted), came.as_str())?;
             }
         }
         Ok(())
@@ -108,7 +114,7 @@ impl Counts {
 /// Plays the cases of a text, and prints how many cases and answers there were. The exit status is 1 where a line is answered otherwise
 /// than it says.
 pub fn play_cases<P: CasePlayer>(
-    rt: &impl Print,
+    rt: &(impl Print + Eprint),
     alloc: Global,
     cases: &str,
     player: &mut P,

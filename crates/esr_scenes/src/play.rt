@@ -34,21 +34,27 @@ fn is_comment(line: &str) -> bool {
     line.is_empty() || line.starts_with('#')
 }
 
-/// Says which line didn't hold, what was wanted and what came.
+/// Prints what doesn't hold, and says it on standard error too, of which the gate shows the end.
+pub fn complain(rt: &(impl Print + Eprint), text: &str) -> io::Result<()> {
+    let _ = eprint!(rt; "{text}");
+    print!(rt; "{text}")
+}
+
+/// Says which line didn't hold, what was wanted and what came. The call is said first, since it may be long.
 fn tell(
-    rt: &impl Print,
+    rt: &(impl Print + Eprint),
+    alloc: Global,
     scene: Scene<'_>,
     place: usize,
-    line: (&str, &str),
+    (call, wanted): (&str, &str),
     came: &str,
 ) -> io::Result<()> {
     let number = place.saturating_add(FIRST_LINE);
-    let (call, wanted) = line;
-    println!(rt;
-        "scene `{}` over {}, line {number}: {call}",
-        scene.name, scene.over
+    let (name, over) = (scene.name, scene.over);
+    let text = format!(in alloc;
+        "{call}\n  scene `{name}` over {over}, line {number}\n  wanted: {wanted}\n  came:   {came}\n"
     )?;
-    println!(rt; "  wanted: {wanted}\n  came:   {came}")
+    complain(rt, text.as_str())
 }
 
 impl Tally {
@@ -61,15 +67,21 @@ impl Tally {
     }
 
     /// Says why a scene isn't played, and counts that.
-    pub fn refuse(&mut self, rt: &impl Print, scene: Scene<'_>, why: &str) -> io::Result<()> {
+    pub fn refuse(
+        &mut self,
+        rt: &(impl Print + Eprint),
+        scene: Scene<'_>,
+        why: &str,
+    ) -> io::Result<()> {
         self.failures = self.failures.saturating_add(1);
+        let _ = eprintln!(rt; "scene `{}`: {why}", scene.name);
         println!(rt; "scene `{}`: {why}", scene.name)
     }
 
     /// Plays a scene over a subject. Of each line that doesn't hold it says so.
     pub fn play<S: Subject>(
         &mut self,
-        rt: &impl Print,
+        rt: &(impl Print + Eprint),
         alloc: Global,
         scene: Scene<'_>,
         subject: &mut S,
@@ -85,7 +97,7 @@ impl Tally {
             self.lines = self.lines.saturating_add(1);
             if came.as_str().trim() != wanted {
                 self.failures = self.failures.saturating_add(1);
-                tell(rt, scene, place, (call, wanted), came.as_str())?;
+                tell(rt, alloc, scene, place, (call, wanted), came.as_str())?;
             }
         }
         Ok(())
@@ -94,7 +106,7 @@ impl Tally {
     /// Plays a scene over a subject, which goes then.
     pub fn play_once<S: Subject + Drop>(
         &mut self,
-        rt: &impl Print,
+        rt: &(impl Print + Eprint),
         alloc: Global,
         scene: Scene<'_>,
         mut subject: S,
@@ -119,7 +131,7 @@ impl Tally {
 
 /// Plays a scene over each subject that it names.
 fn play_each<P: Player>(
-    rt: &impl Print,
+    rt: &(impl Print + Eprint),
     player: &P,
     scene: Scene<'_>,
     tally: &mut Tally,
@@ -138,7 +150,7 @@ fn play_each<P: Player>(
 }
 
 /// Plays the scenes of a text, and answers whether all held.
-fn play_all<P: Player>(rt: &impl Print, player: &P, text: &str) -> io::Result<bool> {
+fn play_all<P: Player>(rt: &(impl Print + Eprint), player: &P, text: &str) -> io::Result<bool> {
     let mut tally = Tally::new();
     for block in text.split("\nscene ").skip(1) {
         play_each(rt, player, scene_of(block), &mut tally)?;
@@ -147,7 +159,11 @@ fn play_all<P: Player>(rt: &impl Print, player: &P, text: &str) -> io::Result<bo
 }
 
 /// Plays the scenes of a text, if it was read. Answers the exit status: it isn't 0 where a line doesn't hold, or a stream fails.
-pub fn play_scenes<P: Player>(rt: &impl Print, player: &P, text: io::Result<String>) -> ExitCode {
+pub fn play_scenes<P: Player>(
+    rt: &(impl Print + Eprint),
+    player: &P,
+    text: io::Result<String>,
+) -> ExitCode {
     let played = match text {
         Ok(text) => play_all(rt, player, text.as_str()),
         Err(error) => Err(error),
@@ -156,6 +172,7 @@ pub fn play_scenes<P: Player>(rt: &impl Print, player: &P, text: io::Result<Stri
         Ok(true) => ExitCode::SUCCESS,
         Ok(false) => ExitCode::FAILURE,
         Err(error) => {
+            let _ = eprintln!(rt; "{error}");
             let _ = println!(rt; "{error}");
             ExitCode::FAILURE
         }

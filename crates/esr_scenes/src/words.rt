@@ -1,5 +1,15 @@
 //! The words of a line, one after another.
 
+/// Whether a word is one of those.
+pub fn is_among(words: &str, word: &str) -> bool {
+    for other in words.split_whitespace() {
+        if other == word {
+            return true;
+        }
+    }
+    false
+}
+
 /// What is wrong with a word that can't be read.
 #[derive(Clone, Copy)]
 pub struct Unread(pub &'static str);

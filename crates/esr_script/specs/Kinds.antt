@@ -1,5 +1,5 @@
--- The verbs of lines, and what lines are to a run by them: by this report, completeness and the run tell them apart, but for what each asks
--- for and how it is answered.
+-- The verbs of lines, and what lines are to a run by them: by this report, completeness, targets and the run tell them apart, but for what
+-- each asks for and how it is answered.
 use Rattle.std.specs.Prelude.{ℕ, Bool, true, false, List, codes}
 use Rattle.esr_script.specs.declared.item.Item.{Item}
 use Rattle.esr_script.specs.declared.item.Item.TheVariants as items

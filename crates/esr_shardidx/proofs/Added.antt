@@ -13,7 +13,7 @@ use Rattle.esr_shardidx.specs.FileOrder.{all_map}
 use Rattle.esr_shardidx.specs.RoundTrip.{entries_of}
 use Rattle.esr_shardidx.proofs.Files.{insert_files-all, insert_files-rises, insert_files-keeps, insert_file-own}
 use Rattle.esr_shardidx.proofs.IndexTexts.{AreLists-push}
-use Rattle.esr_shardidx.specs.KeptLists.{AreLists-where}
+use Rattle.esr_shardidx.specs.IndexLists.{AreLists-where}
 
 ids_fit : (es : List FileEntry) → AllByRecursion IsEntry es → AllByRecursion (λ u. u.number < 2 ^ 128) (map name_of es)
 ids_fit [] h = tt

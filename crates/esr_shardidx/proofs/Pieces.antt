@@ -47,7 +47,8 @@ pub item_added : {A : Type 0} (f : A → Data) (xs : List A) (i : ℕ) (d : A) (
 item_added {A} f xs i d u v w within first next =
     let x : A = get_or xs i d in
     let all = adds_then u v w (Token.begin_array ∷ pieces f (take i xs)) (tokens_of (f x)) first next in
-    let more : pieces f (take (i + 1) xs) ≡ pieces f (take i xs) ++ tokens_of (f x) = ap (pieces f) (take_more xs i d within) ∙ pieces-append f (take i xs) (x ∷ []) ∙ ap (λ (ts : List Token). pieces f (take i xs) ++ ts) (append-nil (tokens_of (f x))) in
+    let more : pieces f (take (i + 1) xs) ≡ pieces f (take i xs) ++ tokens_of (f x) =
+    ap (pieces f) (take_more xs i d within) ∙ pieces-append f (take i xs) (x ∷ []) ∙ ap (λ (ts : List Token). pieces f (take i xs) ++ ts) (append-nil (tokens_of (f x))) in
     record { before = all.before; tokens = all.tokens ∙ ap (λ (ts : List Token). u.tokens ++ Token.begin_array ∷ ts) (sym more) }
 
 -- the end of the list

@@ -1,14 +1,14 @@
 -- Ids that stand twice, and sets of ids.
-use Rattle.std.proofs.Common.{◌≡◌, ℕ, ◌==◌, ◌||◌, nat_lt, Bool, true, false, cond, List, [], ◌∷◌, ◌++◌, ◌+◌, ◌<◌, length, take, drop, get_or, refl, sym, ap, ◌∙◌, subst, inl, inr}
+use Rattle.std.proofs.Common.{◌≡◌, ℕ, ◌==◌, ◌||◌, Bool, true, false, cond, List, [], ◌∷◌, ◌++◌, ◌+◌, ◌<◌, length, take, drop, get_or, refl, sym, ap, ◌∙◌, subst, inl, inr}
 use Rattle.std.specs.List.{list_any}
-use Rattle.std.specs.Ordering.{nat_cmp, is_eq}
+use Rattle.std.specs.Ordering.{nat_cmp}
 use Rattle.std.specs.BTreeSet.{BTreeSet, contains, Updates}
-use Rattle.std.proofs.lemmas.Bool.{cases_Bool, ltb-true, eqb-true, eq-eqb, or_left, or_right, or_parts}
+use Rattle.std.proofs.lemmas.Bool.{cases_Bool, eqb-true, eq-eqb, or_left, or_right, or_parts}
 use Rattle.std.proofs.lemmas.List.{take_more, drop_more, take-append-drop}
 use Rattle.std.proofs.lemmas.List.Folds.{list_any-append}
 use Rattle.esr_names.specs.declared.ids.Id.{Id}
 use Rattle.esr_shardidx.specs.Indices.{is_id, repeats}
-use Rattle.esr_shardidx.specs.FileOrder.{or_cases, not_equal}
+use Rattle.esr_shardidx.specs.FileOrder.{or_cases, is_eq-nat_cmp}
 
 flip_id : (u v : Id) → is_id u v ≡ is_id v u
 flip_id u v = elim (cases_Bool (v.number == u.number)) [
@@ -44,15 +44,6 @@ repeats-front (x ∷ xs) ys h = or_cases (list_any (is_id x) xs) (repeats xs) h
     (λ later. or_right (list_any (is_id x) (xs ++ ys)) _ (repeats-front xs ys later))
 
 -- ---- a set that holds the numbers of a list
-
-is_eq-nat_cmp : (a b : ℕ) → is_eq (nat_cmp a b) ≡ (a == b)
-is_eq-nat_cmp a b = elim (cases_Bool (nat_lt a b)) [
-  | inl less ↦ let apart : (a == b) ≡ false = not_equal a b (ltb-true a b less) in rw (less, apart) refl
-  | inr least ↦ elim (cases_Bool (a == b)) [
-    | inl same ↦ rw (least, same) refl
-    | inr other ↦ rw (least, other) refl
-  ]
-]
 
 -- it holds these
 abbrev pub Holds : {A : Type 0} → (A → ℕ) → BTreeSet ℕ → List A → Type 0

@@ -3,6 +3,7 @@ use Rattle.std.proofs.Common.{◌≡◌, ℕ, zero, suc, ◌-◌, ◌<◌, ◌�
 use Rattle.std.specs.List.{list_any, AllByRecursion}
 use Rattle.std.specs.List.Sorted.{IsNonDecreasingBy, IsPartitionPoint}
 use Rattle.std.proofs.lemmas.Bool.{cases_Bool, ltb-true, ltb-false, eqb-true, eqb-false}
+use Rattle.std.proofs.Math.Bool.{or-false}
 use Rattle.esr_names.specs.declared.ids.Id.{Id}
 use Rattle.esr_shardidx.specs.declared.entry.FileEntry.{FileEntry}
 use Rattle.esr_shardidx.specs.Entries.{last_of, id_falls}
@@ -20,14 +21,10 @@ first_least u e (f ∷ es) rises stays =
     let later = first_least u f es rises.1 (rw place at stays) in
     omega (arith, rises.0.0, later)
 
-or_nothing : (b : Bool) → (b || false) ≡ b
-or_nothing true = refl
-or_nothing false = refl
-
 -- an id that isn't below the last is that of an entry exactly where it is that of the last
 pub last_has : (u : Id) (es : List FileEntry) → Rises es → id_falls (last_of es) u ≡ false → list_any (has_name u) es ≡ is_at u (last_of es)
 last_has u [] rises stays = refl
-last_has u (e ∷ []) rises stays = or_nothing (has_name u e)
+last_has u (e ∷ []) rises stays = or-false (has_name u e)
 last_has u (e ∷ f ∷ es) rises stays =
     let place : length (e ∷ f ∷ es) - 1 ≡ suc (length (f ∷ es) - 1) = omega arith in
     let stays_on = rw place at stays in

@@ -1,6 +1,7 @@
 -- Entries that rise by id, and what is kept of them.
 use Rattle.std.proofs.Common.{◌≡◌, ℕ, zero, suc, ◌-◌, ◌<◌, ◌≤◌, ◌==◌, ◌||◌, nat_lt, Bool, true, false, cond, List, [], ◌∷◌, ◌++◌, length, filter, slice_get, refl, ap, arith, inl, inr}
 use Rattle.std.specs.List.{list_any, AllByRecursion}
+use Rattle.std.specs.Ordering.{nat_cmp, is_eq}
 use Rattle.std.proofs.lemmas.Bool.{cases_Bool, le-ltb, ltb-true, ltb-false, eqb-true, eqb-false}
 use Rattle.esr_names.specs.declared.ids.Id.{Id}
 use Rattle.esr_shardidx.specs.declared.entry.FileEntry.{FileEntry}
@@ -109,5 +110,14 @@ insert_file-rises e (f ∷ fs) rises = elim (cases_Bool (nat_lt f.name.number e.
         let apart = eqb-false f.name.number e.name.number other in
         let less : e.name.number < f.name.number = omega (arith, low, apart) in
         rw (least, other) ((less, all_map (λ (x : FileEntry) (h : Above f.name x). let more : Above e.name x = omega (arith, h, less) in more) fs rises.0), rises)
+  ]
+]
+
+pub is_eq-nat_cmp : (a b : ℕ) → is_eq (nat_cmp a b) ≡ (a == b)
+is_eq-nat_cmp a b = elim (cases_Bool (nat_lt a b)) [
+  | inl less ↦ let apart : (a == b) ≡ false = not_equal a b (ltb-true a b less) in rw (less, apart) refl
+  | inr least ↦ elim (cases_Bool (a == b)) [
+    | inl same ↦ rw (least, same) refl
+    | inr other ↦ rw (least, other) refl
   ]
 ]

@@ -6,6 +6,6 @@ pub mod Marks
 pub mod Parts
 pub mod Written
 pub mod FileOrder
-pub mod KeptLists
+pub mod IndexLists
 pub mod NamesRise
 pub mod RoundTrip

@@ -195,7 +195,8 @@ own_of_itself hands.Restore = tt
 own_of_itself hands.Check = tt
 own_of_itself hands.Verify = tt
 
-module _ {S F H T : Type 0} (e : Evidence S F H T) (s : Start) (hand : Hand) (log : List Moment) (m : Moment) (faults : List (Fault S F H T)) (why : Why) (b : By S F H T) (teller : IsTeller hand m.entry.who) (step : m.entry.step ≡ fail_step hand why) (reply : m.entry.reply ≡ HasEnded)
+module _ {S F H T : Type 0} (e : Evidence S F H T) (s : Start) (hand : Hand) (log : List Moment) (m : Moment) (faults : List (Fault S F H T))
+    (why : Why) (b : By S F H T) (teller : IsTeller hand m.entry.who) (step : m.entry.step ≡ fail_step hand why) (reply : m.entry.reply ≡ HasEnded)
     (shown : IsShown hand e s log m.entry.who why b) (h : AreShown e s log faults) where
   -- by whichever hand it is read
   now_shown : (other : Hand) (place who : ℕ) (told : Why) (r : IsReport other (log ++ m ∷ []) place who told) → (r.front ≡ log) × (m ≡ r.moment) → IsShownAt other e s r.front place who told (faults ++ listed_at (length log) b)

@@ -261,7 +261,8 @@ module _ {S F H T : Type 0} (e : Evidence S F H T) (s : Start) (own new : List M
       → after ≡ roomy ++ targets_by target result → Did s own new who (ReadStep (RestoredShard files bytes)) (λ _. HasEnded) result
       → (length new + (left - took) ≡ all) × AreShown e s new faults × AreTargetsOf e s new after × AreOnce s new × Numbered 1 s.world × (s.world.entries ≡ []) × AreTested s new × AreRemovedOnce new
   keeps_target log files bytes result roomy after target turns view filled same is d = (
-    counted (length own) (length new) left took all some (subst (λ (n : ℕ). n ≤ 1) (sym turns) (at_most_one result)) h.0 (grown s own new who (ReadStep (RestoredShard files bytes)) (λ _. HasEnded) result d ∙ ap (λ (n : ℕ). length own + n) (sym turns)),
+    counted (length own) (length new) left took all some (subst (λ (n : ℕ). n ≤ 1) (sym turns) (at_most_one result)) h.0
+        (grown s own new who (ReadStep (RestoredShard files bytes)) (λ _. HasEnded) result d ∙ ap (λ (n : ℕ). length own + n) (sym turns)),
     did e s own new who (ReadStep (RestoredShard files bytes)) (λ _. HasEnded) result faults (λ x why told ended. cc) d h.1,
     subst (λ (l : List (RestoredTarget T)). AreTargetsOf e s new l) (sym (is ∙ ap (λ (l : List (RestoredTarget T)). l ++ targets_by target result) same))
         (target_listed e s own new who files bytes result targets target (subst (λ (l : List Moment). IsFilled e s (reader_of s l who) files bytes target) (sym view) filled) d h.2),

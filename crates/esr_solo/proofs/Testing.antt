@@ -48,7 +48,8 @@ no_done : (refusal : Refusal) → Refused refusal ≡ WasDone → ⊥
 no_done refusal e = cc
 
 -- it was answered Ok
-done : {X : Type 0} (s : Start) (old new : List Moment) (who : ℕ) (step : Step) (ok : X → Reply) (x : X) → TestsBy {X = X} s old new step (Ok x) → (d : Added s old new who step (ok x)) → IsNewTest s old (record { entry = record { who = who; step = step; reply = ok x }; image = d.image })
+done : {X : Type 0} (s : Start) (old new : List Moment) (who : ℕ) (step : Step) (ok : X → Reply) (x : X) → TestsBy {X = X} s old new step (Ok x) → (d : Added s old new who step (ok x))
+    → IsNewTest s old (record { entry = record { who = who; step = step; reply = ok x }; image = d.image })
 done {X} s old new who step ok x t d name is =
     let one : Tests {X = X} s old new name (Ok x) = tests_as {X = X} s old new step (Ok x) name t is in
     record { once = one.once; id = one.id; drawn = one.drawn; wrote = λ reply. subst (λ (l : List Moment). caller_of s l ≡ caller_wrote (caller_of s old) name (told_bytes s (id_text one.id))) d.is one.wrote }

@@ -2,9 +2,7 @@
 use crate::Solo;
 use crate::solo::turns;
 use esr_depot::Depot;
-use esr_desk::{
-    AcceptedRestore, Attempt, Client, CloneAsk, Done, Look, Named, NewBlob, StepRefusal,
-};
+use esr_desk::{AcceptedRestore, Attempt, Client, CloneAsk, Look, Named, NewBlob, StepRefusal};
 use esr_names::{BlobName, Id, SnapName};
 use esr_ops::Command;
 use esr_repo::Told;
@@ -62,7 +60,7 @@ impl<D: Depot, K: Told, H: Shard, T: Target> Client for Solo<D, K, H, T> {
         answer
     }
 
-    fn end_check(&mut self, alloc: Global, snapshots: u64, blobs: u64) -> Done {
+    fn end_check(&mut self, alloc: Global, snapshots: u64, blobs: u64) -> Attempt {
         self.repo.is_legal();
         if self.left == 0 {
             return Err(StepRefusal::TurnsSpent);
@@ -95,7 +93,7 @@ impl<D: Depot, K: Told, H: Shard, T: Target> Client for Solo<D, K, H, T> {
         answer
     }
 
-    fn commit_test(&mut self, alloc: Global, name: BlobName, stage: D::Stage) -> Done {
+    fn commit_test(&mut self, alloc: Global, name: BlobName, stage: D::Stage) -> Attempt {
         self.repo.is_legal();
         if self.left == 0 {
             return Err(StepRefusal::TurnsSpent);
@@ -106,7 +104,7 @@ impl<D: Depot, K: Told, H: Shard, T: Target> Client for Solo<D, K, H, T> {
         answer
     }
 
-    fn remove_tests(&mut self, alloc: Global, names: &Seq<BlobName>) -> Done {
+    fn remove_tests(&mut self, alloc: Global, names: &Seq<BlobName>) -> Attempt {
         self.repo.is_legal();
         if self.left == 0 {
             return Err(StepRefusal::TurnsSpent);
@@ -117,7 +115,7 @@ impl<D: Depot, K: Told, H: Shard, T: Target> Client for Solo<D, K, H, T> {
         answer
     }
 
-    fn end_verification(&mut self, alloc: Global) -> Done {
+    fn end_verification(&mut self, alloc: Global) -> Attempt {
         self.repo.is_legal();
         if self.left == 0 {
             return Err(StepRefusal::TurnsSpent);

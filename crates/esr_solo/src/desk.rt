@@ -16,8 +16,8 @@ use crate::kept::{keep, list};
 use crate::solo::{TURNS, turns};
 use esr_depot::{Commit, Depot, Listing};
 use esr_desk::{
-    Attempt, Basis, Desk, Done, Failure, Named, NewBlob, Planned, Put, RestoreEnd, StepRefusal,
-    Unended, Unit, Who, each_ticket_is_new,
+    Attempt, Basis, Desk, Failure, Named, NewBlob, Planned, RestoreEnd, StepRefusal, Unended, Unit,
+    Who, each_ticket_is_new,
 };
 use esr_names::{BlobName, Id};
 use esr_repo::Told;
@@ -80,7 +80,7 @@ impl<D: Depot, K: Told, H: Shard, T: Target> Desk for Solo<D, K, H, T> {
         answer
     }
 
-    fn fail(&mut self, alloc: Global, failure: Failure<D::Stage, D::Fetch, H, T>) -> Done
+    fn fail(&mut self, alloc: Global, failure: Failure<D::Stage, D::Fetch, H, T>) -> Attempt
         requires mine { IsMine failure.who.hand (calls_at 0 self.old) failure.who.number }
         requires may { MayFail failure.who.hand K.start self.old failure.who.number }
         requires shown { IsShown failure.who.hand (evidence D.Stage.faults D.Fetch.faults H.faults T.faults H.told T.told)
@@ -130,7 +130,13 @@ impl<D: Depot, K: Told, H: Shard, T: Target> Desk for Solo<D, K, H, T> {
         answer
     }
 
-    fn commit(&mut self, alloc: Global, ticket: u64, name: BlobName, stage: Self::Stage) -> Put {
+    fn commit(
+        &mut self,
+        alloc: Global,
+        ticket: u64,
+        name: BlobName,
+        stage: Self::Stage,
+    ) -> Attempt<Commit> {
         self.repo.is_legal();
         if self.left == 0 {
             return Err(StepRefusal::TurnsSpent);
@@ -141,7 +147,13 @@ impl<D: Depot, K: Told, H: Shard, T: Target> Desk for Solo<D, K, H, T> {
         answer
     }
 
-    fn latest(&mut self, alloc: Global, ticket: u64, name: BlobName, stage: Self::Stage) -> Done {
+    fn latest(
+        &mut self,
+        alloc: Global,
+        ticket: u64,
+        name: BlobName,
+        stage: Self::Stage,
+    ) -> Attempt {
         self.repo.is_legal();
         if self.left == 0 {
             return Err(StepRefusal::TurnsSpent);
@@ -163,7 +175,7 @@ impl<D: Depot, K: Told, H: Shard, T: Target> Desk for Solo<D, K, H, T> {
         answer
     }
 
-    fn settle(&mut self, alloc: Global, ticket: u64, root: &RootData) -> Done {
+    fn settle(&mut self, alloc: Global, ticket: u64, root: &RootData) -> Attempt {
         self.repo.is_legal();
         if self.left == 0 {
             return Err(StepRefusal::TurnsSpent);
@@ -203,7 +215,7 @@ impl<D: Depot, K: Told, H: Shard, T: Target> Desk for Solo<D, K, H, T> {
         answer
     }
 
-    fn settle_delete(&mut self, alloc: Global, ticket: u64, root: &RootData) -> Done {
+    fn settle_delete(&mut self, alloc: Global, ticket: u64, root: &RootData) -> Attempt {
         self.repo.is_legal();
         if self.left == 0 {
             return Err(StepRefusal::TurnsSpent);
@@ -214,7 +226,7 @@ impl<D: Depot, K: Told, H: Shard, T: Target> Desk for Solo<D, K, H, T> {
         answer
     }
 
-    fn remove(&mut self, alloc: Global, ticket: u64, names: &Seq<BlobName>) -> Done {
+    fn remove(&mut self, alloc: Global, ticket: u64, names: &Seq<BlobName>) -> Attempt {
         self.repo.is_legal();
         if self.left == 0 {
             return Err(StepRefusal::TurnsSpent);
@@ -225,7 +237,7 @@ impl<D: Depot, K: Told, H: Shard, T: Target> Desk for Solo<D, K, H, T> {
         answer
     }
 
-    fn end_shard(&mut self, alloc: Global, ticket: u64, outcome: &ShardResult) -> Done {
+    fn end_shard(&mut self, alloc: Global, ticket: u64, outcome: &ShardResult) -> Attempt {
         self.repo.is_legal();
         if self.left == 0 {
             return Err(StepRefusal::TurnsSpent);
@@ -269,7 +281,7 @@ impl<D: Depot, K: Told, H: Shard, T: Target> Desk for Solo<D, K, H, T> {
         list(&mut self.targets, target, answer)
     }
 
-    fn end_delete(&mut self, alloc: Global, ticket: u64) -> Done {
+    fn end_delete(&mut self, alloc: Global, ticket: u64) -> Attempt {
         self.repo.is_legal();
         if self.left == 0 {
             return Err(StepRefusal::TurnsSpent);
@@ -280,7 +292,7 @@ impl<D: Depot, K: Told, H: Shard, T: Target> Desk for Solo<D, K, H, T> {
         answer
     }
 
-    fn end_drop(&mut self, alloc: Global, ticket: u64) -> Done {
+    fn end_drop(&mut self, alloc: Global, ticket: u64) -> Attempt {
         self.repo.is_legal();
         if self.left == 0 {
             return Err(StepRefusal::TurnsSpent);
@@ -291,7 +303,7 @@ impl<D: Depot, K: Told, H: Shard, T: Target> Desk for Solo<D, K, H, T> {
         answer
     }
 
-    fn end_cleanup(&mut self, alloc: Global, ticket: u64) -> Done {
+    fn end_cleanup(&mut self, alloc: Global, ticket: u64) -> Attempt {
         self.repo.is_legal();
         if self.left == 0 {
             return Err(StepRefusal::TurnsSpent);
@@ -302,7 +314,7 @@ impl<D: Depot, K: Told, H: Shard, T: Target> Desk for Solo<D, K, H, T> {
         answer
     }
 
-    fn finish(&mut self, alloc: Global, ticket: u64) -> Done {
+    fn finish(&mut self, alloc: Global, ticket: u64) -> Attempt {
         self.repo.is_legal();
         if self.left == 0 {
             return Err(StepRefusal::TurnsSpent);

@@ -83,7 +83,8 @@ may_ask_snapshot s log (Snapshot name indices moment) cluster p accepted next se
     record {
       swaps = refl;
       answers = refl;
-      allows = λ image tells same. Accepting name indices moment accepted.op image (record { number = is.number; distinct = askable.0; no_cleanup = may.no_cleanup; unused = may.unused; room = may.room; fits = fits; texts = is.texts s.known s.told }) same;
+      allows = λ image tells same.
+          Accepting name indices moment accepted.op image (record { number = is.number; distinct = askable.0; no_cleanup = may.no_cleanup; unused = may.unused; room = may.room; fits = fits; texts = is.texts s.known s.told }) same;
       cluster_is = cluster_from (asked (world_of s log) (Snapshot name indices moment)) cluster p is.plan ledger ops;
       root_is = λ old h. h;
       infos_are = served.stay 0 (AskStep (Snapshot name indices moment)) tt;

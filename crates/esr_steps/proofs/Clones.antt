@@ -1,5 +1,5 @@
 -- A clone that is asked for.
-use Rattle.std.proofs.Common.{◌≡◌, ℕ, suc, ◌+◌, ◌<◌, ◌≤◌, true, List, [], ◌∷◌, map, Option, Some, None, Result, Ok, Err, IsErrAnd, IfSome, refl, sym, ap, ◌∙◌, subst, inl, inr, arith}
+use Rattle.std.proofs.Common.{◌≡◌, ℕ, suc, ◌+◌, ◌<◌, ◌≤◌, true, List, [], ◌∷◌, map, Option, Some, None, Result, Ok, Err, IsErrAnd, IfOk, IfSome, refl, sym, ap, ◌∙◌, subst, inl, inr, arith}
 use Rattle.std.specs.FinMap as fin
 use Rattle.esr_model.specs.Kept.{first_id}
 use Rattle.esr_model.specs.Values.{Bytes, Has, IndexRef}
@@ -86,7 +86,7 @@ named_once (x ∷ refs) apart r q (inl a) (inr n) same = absurd ((apart.2 q n).0
 named_once (x ∷ refs) apart r q (inr m) (inl b) same = absurd ((apart.2 r m).0 (same ∙ ap (λ (z : IndexRef). z.name) (sym b)))
 named_once (x ∷ refs) apart r q (inr m) (inr n) same = named_once refs apart.3 r q m n same
 
-one_more : (n next : ℕ) → next ≡ n + 1 → next ≡ suc n
+pub one_more : (n next : ℕ) → next ≡ n + 1 → next ≡ suc n
 one_more n next is = omega (arith, is)
 
 pub may_ask_clone : (s : Start) (log : List Moment) (source name : Bytes) (names : List Bytes) (moment : ℕ) (taken : CloneOf) (all : List IndexRef) (cluster : Record) (p : Plan) (o next : ℕ) → InfosAfter s log
@@ -139,3 +139,11 @@ passed_on s old new who was step ok (Err e) x same is added = subst (AddedOr s o
 pub took_from : {X : Type 0} (s : Start) (old mid new : List Moment) (source name : Bytes) (names : List Bytes) (moment : ℕ) (ok : X → Reply) (r : Result X StepRefusal) → mid ≡ old
     → (taken : Option CloneOf) × Did s mid new 0 (AskStep (Clone source name names moment taken)) ok r → (taken : Option CloneOf) × Did s old new 0 (AskStep (Clone source name names moment taken)) ok r
 took_from s old mid new source name names moment ok r e h = (h.0, subst (λ (log : List Moment). Did s log new 0 (AskStep (Clone source name names moment h.0)) ok r) e h.1)
+
+-- ---- the indices that it takes
+
+pub chosen_from : {A E : Type 0} (s : Start) (log : List Moment) (uuid : ℕ) (all : List IndexRef) (names : List Bytes) (refs : A → List IndexRef) (result : Result A E) → HasIndices (formats_of s) (world_of s log) s.tells uuid all
+    → AreApart all → IfOk result (λ x. refs x ≡ chosen_refs all names)
+    → IfOk result (λ x. (all : List IndexRef) × HasIndices (formats_of s) (world_of s log) s.tells uuid all × AreApart all × (refs x ≡ chosen_refs all names))
+chosen_from s log uuid all names refs (Ok x) has apart chosen = (all, has, apart, chosen)
+chosen_from s log uuid all names refs (Err e) has apart chosen = tt

@@ -81,7 +81,7 @@ may_fetch_shard s old log k name e tracked of_ops before =
 
 -- ---- plan
 
-root_kind_is : (s : Start) → (formats_of s).root ≡ root_kind
+pub root_kind_is : (s : Start) → (formats_of s).root ≡ root_kind
 unfolding formats
 root_kind_is s = refl
 
@@ -128,7 +128,8 @@ pub may_plan_delete : (s : Start) (log : List Moment) (k : ℕ) (uuids : List �
 unfolding may_plan
 may_plan_delete s log k uuids shards first next tracked of_ops can back first_is next_is below =
     let root : ReadsBack (formats_of s).root (deleted_root (ticket_of s log k).root uuids shards (world_of s log).next_id) =
-    subst (λ kind. ReadsBack kind (deleted_root (ticket_of s log k).root uuids shards (world_of s log).next_id)) (sym (root_kind_is s)) (subst (λ (n : ℕ). ReadsBack root_kind (deleted_root (ticket_of s log k).root uuids shards n)) first_is back) in
+    subst (λ kind. ReadsBack kind (deleted_root (ticket_of s log k).root uuids shards (world_of s log).next_id)) (sym (root_kind_is s))
+    (subst (λ (n : ℕ). ReadsBack root_kind (deleted_root (ticket_of s log k).root uuids shards n)) first_is back) in
     record {
       plain = refl;
       allows = λ image tells same. subst (λ (n : ℕ). Allows (formats_of s) s.part_size (world_of s log) k (PruneStep (PlanShards shards)) (DrawnFrom n) image) (sym first_is)
@@ -173,15 +174,16 @@ may_refuse_delete s old log k root seat now e tracked of_ops before seat_is now_
     subst (MayRefuse s log k (PruneStep SettlePruned)) (ap (λ (n : ℕ). StaleTerm n (world_of s log).term) (sym own_is) ∙ ap (StaleTerm seat.term) (sym now_is))
     (record {
       plain = refl;
-      allows = λ image tells same. Pruning k SettlePruned (Refused (StaleTerm (ticket_of s log k).term (world_of s log).term)) image (SettleDeleteStale k image (settles_it s log k root tracked of_ops can) (λ q. stale (own_is ∙ q ∙ sym now_is)) same);
+      allows = λ image tells same.
+          Pruning k SettlePruned (Refused (StaleTerm (ticket_of s log k).term (world_of s log).term)) image (SettleDeleteStale k image (settles_it s log k root tracked of_ops can) (λ q. stale (own_is ∙ q ∙ sym now_is)) same);
     })
 
 pub may_swap_delete : (s : Start) (log : List Moment) (k : ℕ) (root : Root) (infos left : List Info) (cluster : Record) (plan p : Plan) (next : ℕ) → AreOfOps (world_of s log) → InfosAfter s log → Tracked (world_of s log)
     → CanSettleDelete s (ticket_of s log k) (root_of root) → (ticket_of s log k).term ≡ (world_of s log).term → HasInfos s (world_of s log) infos → left ≡ filter (λ (i : Info). lists root.snapshots i.uuid) infos
     → IsPlanOf (world_of s log) plan
     → ((f : Formats) (w : World) (t : Ticket) (c : Swap) (n : ℕ) → IsPlanOf w plan → fin.get w.tickets k ≡ Some t → swap f t ≡ Some c → t.raised ≡ Some n → IsPlanOf (delete_settled f w k (Some t)) p)
-    → ((n : ℕ) → (ticket_of s log k).raised ≡ Some n → (cluster_of cluster).ledger ≡ record { safe = suc n; pending = (world_of s log).pending; term = (world_of s log).term }) → map op_of cluster.ops ≡ record_ops p.ops p.deletes → next ≡ (world_of s log).next_id
-    → MaySwap s log k (PruneStep SettlePruned) WasSettled cluster (Some root) (Some left) None (Some p) next
+    → ((n : ℕ) → (ticket_of s log k).raised ≡ Some n → (cluster_of cluster).ledger ≡ record { safe = suc n; pending = (world_of s log).pending; term = (world_of s log).term }) → map op_of cluster.ops ≡ record_ops p.ops p.deletes
+    → next ≡ (world_of s log).next_id → MaySwap s log k (PruneStep SettlePruned) WasSettled cluster (Some root) (Some left) None (Some p) next
 unfolding settles_it
 may_swap_delete s log k root infos left cluster plan p next of_ops served tracked can present has left_is plan_is goes ledger ops next_is =
     let settle = can.settle in

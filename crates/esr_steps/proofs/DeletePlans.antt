@@ -1,7 +1,6 @@
 -- The shards that a delete's ticket plans have their places in the root, and their count.
-use Rattle.std.proofs.Common.{◌≡◌, ℕ, zero, suc, ◌+◌, ◌*◌, ◌^◌, ◌<◌, ◌≤◌, Bool, true, false, cond, List, [], ◌∷◌, length, map, Option, Some, option_map, Result, Ok, Err, IfOk, refl, sym, ap, ◌∙◌, subst, inl, inr, arith}
+use Rattle.std.proofs.Common.{◌≡◌, ℕ, zero, suc, ◌+◌, ◌*◌, ◌^◌, ◌<◌, ◌≤◌, Bool, true, false, cond, List, [], ◌∷◌, length, map, Option, Some, option_map, Result, Ok, Err, IfOk, refl, sym, ap, ◌∙◌, subst, arith}
 use Rattle.std.specs.Prelude.{count_by, if◌then◌else◌}
-use Rattle.std.specs.List.{AllByRecursion}
 use Rattle.std.proofs.lemmas.List.{length-map}
 use Rattle.std.proofs.lemmas.List.Recursion.{is_count_by}
 use Rattle.std.proofs.lemmas.Option.{none-some}
@@ -11,11 +10,12 @@ use Rattle.esr_model.specs.Kept.{first_id}
 use Rattle.esr_model.specs.Delete.{PrunedShard, kept_count, deleted_root}
 use Rattle.esr_core.specs.Pruning.{AreOfRoot}
 use Rattle.esr_core.specs.Entry.{Moment}
-use Rattle.esr_model.specs.Lists.{Has-mapped}
+use Rattle.esr_model.specs.Lists.{Has-mapped, all_has}
 use Rattle.esr_core.specs.Laws.OneValue.{generation_index}
 use Rattle.esr_core.specs.Laws.DeleteRoots.{one_found}
 use Rattle.esr_root.specs.Indices.{IsIndex, AreIndices}
 use Rattle.esr_root.specs.Root.{Root}
+use Rattle.esr_core.specs.Laws.DeletePlans.{in_root}
 use Rattle.esr_formats.specs.Ids.{number_of}
 use Rattle.esr_formats.specs.Roots.{root_of, root_index_of, root_kind}
 use Rattle.esr_results.specs.declared.pruned.PrunedShard.{PrunedShard as CodePruned}
@@ -45,16 +45,6 @@ at_low [] k g at = absurd (none-some g at)
 at_low (x ∷ gs) zero g at = omega arith
 at_low (x ∷ gs) (suc k) g at = let low : k < length gs = at_low gs k g at in omega (arith, low)
 
-generation_of : (root : RootData) (shards : List PrunedShard) (p : PrunedShard) → AreOfRoot root shards → Has shards p → Generation root p.index p.number p.base
-generation_of root [] p all m = absurd m
-generation_of root (q ∷ shards) p all (inl same) = subst (λ (x : PrunedShard). Generation root x.index x.number x.base) same all.0
-generation_of root (q ∷ shards) p all (inr m) = generation_of root shards p all.2 m
-
-all_has : {A : Type 0} (P : A → Type 0) (xs : List A) (x : A) → AllByRecursion P xs → Has xs x → P x
-all_has P [] x all m = absurd m
-all_has P (y ∷ xs) x all (inl same) = subst P same all.0
-all_has P (y ∷ xs) x all (inr m) = all_has P xs x all.1 m
-
 pub placed : (r : Root) (shards : List PrunedShard) → AreIndices r.indices → IsOneEach (root_of r).indices → AreOfRoot (root_of r) shards → ArePlaced (root_of r) shards
 placed r shards rules one all p m =
     let (x, there, id) = generation_index (root_of r) p.index p.number p.base gen in
@@ -65,7 +55,7 @@ placed r shards rules one all p m =
     record { few = omega (arith, few, same, low); long = long }
   where
     gen : Generation (root_of r) p.index p.number p.base
-    gen = generation_of (root_of r) shards p all m
+    gen = in_root (root_of r) shards p all m
 
     long : (y : RootIndex) → Has (root_of r).indices y → y.id ≡ p.index → p.number < length y.generations
     long y ym same = at_low y.generations p.number p.base (sym (ap (λ (o : Option RootIndex). at_shard_of o p.number) (one_found (root_of r).indices one y ym p.index same)) ∙ gen)

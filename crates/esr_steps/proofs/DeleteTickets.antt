@@ -62,7 +62,8 @@ settled_puts s old k root can =
     ap (λ (w : World). or_no_ticket (fin.get w.tickets k)) (delete_is (formats_of s) (world_of s old) k (ticket_of s old k) can.change can.n (out_is s old k can.put.out).there can.is can.put.raised)
     ∙ ap or_no_ticket (put_there (world_of s old).tickets k (settle (ticket_of s old k)))
 
-pub settled_ticket : (s : Start) (old mid new : List Moment) (k : ℕ) (root : RootData) → mid ≡ old → CanSettleDelete s (ticket_of s old k) root → Added s mid new k (PruneStep SettlePruned) WasSettled → ticket_of s new k ≡ record (ticket_of s old k) { settled = true }
+pub settled_ticket : (s : Start) (old mid new : List Moment) (k : ℕ) (root : RootData) → mid ≡ old → CanSettleDelete s (ticket_of s old k) root → Added s mid new k (PruneStep SettlePruned) WasSettled
+    → ticket_of s new k ≡ record (ticket_of s old k) { settled = true }
 settled_ticket s old mid new k root e can a =
     added_ticket s old new k (PruneStep SettlePruned) WasSettled (added_from s old mid new k (PruneStep SettlePruned) WasSettled e a) k ∙ settled_puts s old k root can.settle
 
@@ -72,7 +73,8 @@ settle_left s old new k root (Ok n) can did = tt
 settle_left s old new k root (Err steps.Memory) can did = ap (λ (l : List Moment). ticket_of s l k) did
 settle_left s old new k root (Err steps.TurnsSpent) can never = absurd never
 settle_left s old new k root (Err (steps.Refused code.DepotFault)) can did =
-    fell (formats_of s) (world_of s old) (delete_settled (formats_of s) (world_of s old) k (fin.get (world_of s old).tickets k)) did.image k (ticket_of s old k) (settle (ticket_of s old k)) (ticket_of s new k) refl (settled_puts s old k root can.settle)
+    fell (formats_of s) (world_of s old) (delete_settled (formats_of s) (world_of s old) k (fin.get (world_of s old).tickets k)) did.image k
+    (ticket_of s old k) (settle (ticket_of s old k)) (ticket_of s new k) refl (settled_puts s old k root can.settle)
     (added_ticket s old new k (PruneStep SettlePruned) (Refused DepotFault) did k)
 settle_left s old new k root (Err (steps.Refused x)) can did = added_ticket s old new k (PruneStep SettlePruned) (Refused (refusal_of x)) did k
 
@@ -130,7 +132,8 @@ failed_puts w k t tracked there can = go (is_stale w t t.work) refl
         let op = has_op w k t tracked there can (present_term w t can.uuids can.plan can.work e) in
         ap (λ (o : Option Deletion). or_no_ticket (fin.get (delete_failed_by w k t o).tickets k)) op.1 ∙ puts
 
-pub failed_ticket : (s : Start) (old mid new : List Moment) (k : ℕ) (why : Why) → mid ≡ old → CanFailDelete (ticket_of s old k) → Tracked (world_of s mid) → Added s mid new k (PruneStep (DeleteFails why)) HasEnded → ticket_of s new k ≡ record (ticket_of s old k) { out = false }
+pub failed_ticket : (s : Start) (old mid new : List Moment) (k : ℕ) (why : Why) → mid ≡ old → CanFailDelete (ticket_of s old k) → Tracked (world_of s mid) → Added s mid new k (PruneStep (DeleteFails why)) HasEnded
+    → ticket_of s new k ≡ record (ticket_of s old k) { out = false }
 failed_ticket s old mid new k why e can before added =
     let tracked : Tracked (world_of s old) = subst (λ (l : List Moment). Tracked (world_of s l)) e before in
     let a = added_from s old mid new k (PruneStep (DeleteFails why)) HasEnded e added in

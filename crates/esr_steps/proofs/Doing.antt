@@ -76,6 +76,7 @@ done_puts s old k r tracked can =
     ∙ ap (λ (o : Option Op). or_no_ticket (fin.get (done_by (world_of s old) k r (ticket_of s old k) o).tickets k)) shard.op_there
     ∙ ap or_no_ticket (put_there (world_of s old).tickets k (end (ticket_of s old k)))
 
-pub done_ticket : (s : Start) (old mid new : List Moment) (k : ℕ) (r : ShardResult) → mid ≡ old → Tracked (world_of s mid) → CanEnd s (ticket_of s old k) r → Added s mid new k (DoneStep r) HasEnded → ticket_of s new k ≡ record (ticket_of s old k) { out = false }
+pub done_ticket : (s : Start) (old mid new : List Moment) (k : ℕ) (r : ShardResult) → mid ≡ old → Tracked (world_of s mid) → CanEnd s (ticket_of s old k) r → Added s mid new k (DoneStep r) HasEnded
+    → ticket_of s new k ≡ record (ticket_of s old k) { out = false }
 done_ticket s old mid new k r e tracked can a =
     added_ticket s old new k (DoneStep r) HasEnded (added_from s old mid new k (DoneStep r) HasEnded e a) k ∙ done_puts s old k r (subst (λ (log : List Moment). Tracked (world_of s log)) e tracked) can

@@ -62,7 +62,8 @@ may_refuse_draw s log k n next can next_is spent = record {
   allows = λ image tells same. subst (λ (x : ℕ). Allows (formats_of s) s.part_size (world_of s log) k (DrawStep n) (Refused (IdsSpent x)) image) (sym next_is) (DrawSpent k n image (may_draw s log k n can) spent same);
 }
 
-pub drawn_ticket : (s : Start) (old mid new : List Moment) (k n first : ℕ) → mid ≡ old → first ≡ (world_of s mid).next_id → (ticket_of s old k).out ≡ true → Added s mid new k (DrawStep n) (DrawnFrom first) → ticket_of s new k ≡ record (ticket_of s old k) { first = first; drawn = n }
+pub drawn_ticket : (s : Start) (old mid new : List Moment) (k n first : ℕ) → mid ≡ old → first ≡ (world_of s mid).next_id → (ticket_of s old k).out ≡ true → Added s mid new k (DrawStep n) (DrawnFrom first)
+    → ticket_of s new k ≡ record (ticket_of s old k) { first = first; drawn = n }
 drawn_ticket s old mid new k n first e first_is out a =
     let here : (ticket_of s mid k).out ≡ true = subst (λ (log : List Moment). (ticket_of s log k).out ≡ true) (sym e) out in
     added_ticket s mid new k (DrawStep n) (DrawnFrom first) a k

@@ -58,7 +58,8 @@ elect_room r t is most = by (r.term == 2 ^ 63 - 1) refl is
     by false q is = less r.term t (ok_same t (r.term + 1) is) (differ r.term (2 ^ 63 - 1) q) most
 
 -- the term of the record is the next one
-pub elect_record : (r new : Record) (w : World) (t : ℕ) → cluster_of r ≡ record_of w → t ≡ r.term + 1 → new ≡ record r { term = t } → (t ≡ suc w.term) × (cluster_of new ≡ record_of (record w { term = suc w.term; next_id = first_id (suc w.term) }))
+pub elect_record : (r new : Record) (w : World) (t : ℕ) → cluster_of r ≡ record_of w → t ≡ r.term + 1 → new ≡ record r { term = t }
+    → (t ≡ suc w.term) × (cluster_of new ≡ record_of (record w { term = suc w.term; next_id = first_id (suc w.term) }))
 elect_record r new w t is t_is new_is =
     let one : t ≡ suc w.term = t_is ∙ up r.term w.term (ap (λ (c : ClusterRecord). c.ledger.term) is) in
     (one, ap cluster_of new_is ∙ (λ j. record { ledger = record { safe = (is j).ledger.safe; pending = (is j).ledger.pending; term = one j }; ops = (is j).ops }))

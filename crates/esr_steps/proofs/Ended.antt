@@ -152,7 +152,8 @@ failed_puts w k t tracked there can = go (is_stale w t t.work) refl
         let op = op_of w k t tracked there can in
         ap (λ (o : Option Op). or_no_ticket (fin.get (failed_by w k t o).tickets k)) (op.1 (counts_now w t can.unit e)) ∙ puts
 
-pub failed_ticket : (s : Start) (old mid new : List Moment) (k : ℕ) (why : Why) → mid ≡ old → CanFail (ticket_of s old k) → Tracked (world_of s mid) → Added s mid new k (FailedStep why) HasEnded → ticket_of s new k ≡ record (ticket_of s old k) { out = false }
+pub failed_ticket : (s : Start) (old mid new : List Moment) (k : ℕ) (why : Why) → mid ≡ old → CanFail (ticket_of s old k) → Tracked (world_of s mid) → Added s mid new k (FailedStep why) HasEnded
+    → ticket_of s new k ≡ record (ticket_of s old k) { out = false }
 failed_ticket s old mid new k why e before tracked a =
     let can : CanFail (ticket_of s mid k) = subst (λ (l : List Moment). CanFail (ticket_of s l k)) (sym e) before in
     let there = (out_is s mid k can.out).there in

@@ -293,7 +293,8 @@ failed_own law hands.Delete s old new who why tracked reads may a = λ j. record
 }
 failed_own law hands.Restore s old new zero why tracked reads may a = absurd (no_zero (world_of s old) (reader_of s old 0) reads (reading_is s old 0 may))
 failed_own law hands.Restore s old new (suc k) why tracked reads may a = λ j. record {
-  ticket = (added_ticket s old new (suc k) (ReadStep (ReadFails why)) HasEnded a (suc k) ∙ ap (λ (m : FinMap nat_cmp Ticket). or_no_ticket (fin.get m (suc k))) (over_tickets (world_of s old) (suc k) (NotRestored why) (fin.get (world_of s old).readers (suc k)))) j;
+  ticket = (added_ticket s old new (suc k) (ReadStep (ReadFails why)) HasEnded a (suc k)
+      ∙ ap (λ (m : FinMap nat_cmp Ticket). or_no_ticket (fin.get m (suc k))) (over_tickets (world_of s old) (suc k) (NotRestored why) (fin.get (world_of s old).readers (suc k)))) j;
   reader = unrestored_reader s old old new (suc k) why refl reads may a j;
   caller = as_client (suc k) (caller_of s old);
 }

@@ -8,6 +8,7 @@ pub mod Drawing
 pub mod Ended
 pub mod Written
 pub mod Swapping
+pub mod WithOps
 pub mod AskedDeletes
 pub mod AskedCleanups
 pub mod Accepts

@@ -173,7 +173,8 @@ over_reader w k state q tracked is =
     ∙ ap (λ (o : Option Restoring). or_no_reader (fin.get (shard_over w k state q o).readers k)) (tracked.tracked.readers k q is.there is.out).there
     ∙ ap or_no_reader (reader_there w.readers k (record q { out = false }))
 
-pub restored_reader : (s : Start) (old mid new : List Moment) (k files bytes : ℕ) → mid ≡ old → ReadTracked (world_of s mid) → CanEndRestore s (reader_of s old k) files bytes → Added s mid new k (ReadStep (RestoredShard files bytes)) HasEnded → reader_of s new k ≡ record (reader_of s old k) { out = false }
+pub restored_reader : (s : Start) (old mid new : List Moment) (k files bytes : ℕ) → mid ≡ old → ReadTracked (world_of s mid) → CanEndRestore s (reader_of s old k) files bytes
+    → Added s mid new k (ReadStep (RestoredShard files bytes)) HasEnded → reader_of s new k ≡ record (reader_of s old k) { out = false }
 restored_reader s old mid new k files bytes e before can added =
     let tracked : ReadTracked (world_of s old) = subst (λ (l : List Moment). ReadTracked (world_of s l)) e before in
     let a = added_from s old mid new k (ReadStep (RestoredShard files bytes)) HasEnded e added in
@@ -181,7 +182,8 @@ restored_reader s old mid new k files bytes e before can added =
     ∙ ap (λ (w : World). or_no_reader (fin.get w.readers k)) (restored_is (formats_of s) (world_of s old) k files bytes a.image (reader_of s old k) tracked (reading_is s old k can.out))
     ∙ over_reader (world_of s old) k (Restored files bytes) (reader_of s old k) tracked (reading_is s old k can.out)
 
-pub unrestored_reader : (s : Start) (old mid new : List Moment) (k : ℕ) (why : Why) → mid ≡ old → ReadTracked (world_of s mid) → (reader_of s old k).out ≡ true → Added s mid new k (ReadStep (ReadFails why)) HasEnded → reader_of s new k ≡ record (reader_of s old k) { out = false }
+pub unrestored_reader : (s : Start) (old mid new : List Moment) (k : ℕ) (why : Why) → mid ≡ old → ReadTracked (world_of s mid) → (reader_of s old k).out ≡ true → Added s mid new k (ReadStep (ReadFails why)) HasEnded
+    → reader_of s new k ≡ record (reader_of s old k) { out = false }
 unrestored_reader s old mid new k why e before out added =
     let tracked : ReadTracked (world_of s old) = subst (λ (l : List Moment). ReadTracked (world_of s l)) e before in
     let a = added_from s old mid new k (ReadStep (ReadFails why)) HasEnded e added in

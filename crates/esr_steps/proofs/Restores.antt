@@ -1,5 +1,5 @@
 -- A restore that is asked for.
-use Rattle.std.proofs.Common.{◌≡◌, ◌≢◌, ◌⊎◌, ℕ, ◌<◌, ◌≤◌, Bool, true, false, cond, List, [], ◌∷◌, ◌++◌, map, Option, Some, None, Result, Ok, Err, IfOk, IfSome, refl, sym, ap, ◌∙◌, subst, inl, inr, eq-eqb, true≢false}
+use Rattle.std.proofs.Common.{◌≡◌, ◌≢◌, ◌⊎◌, ℕ, ◌<◌, ◌≤◌, Bool, true, false, cond, List, [], ◌∷◌, ◌++◌, map, Option, Some, None, IfSome, refl, sym, ap, ◌∙◌, subst, inl, inr, eq-eqb, true≢false}
 use Rattle.std.specs.Prelude.{◌==◌}
 use Rattle.std.specs.List.{find, IsDistinct}
 use Rattle.std.proofs.lemmas.Bool.{eqb-true}
@@ -67,11 +67,6 @@ found_indices s w infos uuid i has found =
     let h = found_info infos uuid i found in
     subst (λ (u : ℕ). HasIndices (formats_of s) w s.tells u (map ref_of_code i.indices)) h.1 (has.are.each i h.0)
 
--- what holds of a value holds of its copy
-pub copied_so : {T E : Type 0} (r : Result T E) (x : T) (P : T → Type 0) → IfOk r (λ copy. copy ≡ x) → P x → IfOk r P
-copied_so (Ok copy) x P same h = subst P (sym same) h
-copied_so (Err e) x P same h = tt
-
 -- ---- the indices of an info
 
 apart_from : (before qs : List CodeRef) → AreRefs before qs → IsDistinct one_name qs → IsDistinct one_id qs → AreApart (map ref_of_code qs)
@@ -107,7 +102,8 @@ may_restore s log name place uuid indices p o next may has o_is plan_is next_is 
   plain = refl;
   allows = λ image tells same.
       AskingRestore name place (AcceptedRestore o uuid indices) image
-      (OpeningRestore o uuid indices image (record { number = o_is; listed = may.0; spared = may.1; room = may.2; indices_of = record { within = has.within; generations = has.generations; told = told_so s (world_of s log) uuid indices image tells has.told } })) same;
+      (OpeningRestore o uuid indices image
+      (record { number = o_is; listed = may.0; spared = may.1; room = may.2; indices_of = record { within = has.within; generations = has.generations; told = told_so s (world_of s log) uuid indices image tells has.told } })) same;
   plan_is = λ image old h. plan_is;
   next_is = λ image. next_is;
 }

@@ -148,7 +148,8 @@ may_refuse_raise s log k seat r e refusal can seat_is r_is answer stale spent = 
 
 -- ---- the ticket
 
-pub raised_ticket : (s : Start) (old mid new : List Moment) (k n : ℕ) → mid ≡ old → n ≡ (world_of s mid).pending → CanRaise s (ticket_of s old k) → Added s mid new k RaiseStep (RaisedTo n) → ticket_of s new k ≡ record (ticket_of s old k) { raised = Some n }
+pub raised_ticket : (s : Start) (old mid new : List Moment) (k n : ℕ) → mid ≡ old → n ≡ (world_of s mid).pending → CanRaise s (ticket_of s old k) → Added s mid new k RaiseStep (RaisedTo n)
+    → ticket_of s new k ≡ record (ticket_of s old k) { raised = Some n }
 raised_ticket s old mid new k n e n_is can a =
     let here : (ticket_of s mid k).out ≡ true = subst (λ (log : List Moment). (ticket_of s log k).out ≡ true) (sym e) can.out in
     added_ticket s mid new k RaiseStep (RaisedTo n) a k
@@ -222,8 +223,8 @@ raised_in s log k root r seat n ranked can present is numbers seat_is raised =
 some_number : (a b : ℕ) → Some a ≡ Some b → a ≡ b
 some_number a b q = cc
 
-pub settled_ledger : (s : Start) (log : List Moment) (k : ℕ) (r new : Record) (seat : Seat) (n m : ℕ) → cluster_of r ≡ record_of (world_of s log) → seat ≡ seat_of (ticket_of s log k) → seat.raised ≡ Some n → IsRaised r n → new ≡ record r { safe = to_z w64 n } → (ticket_of s log k).raised ≡ Some m
-    → (cluster_of new).ledger ≡ record { safe = suc m; pending = (world_of s log).pending; term = (world_of s log).term }
+pub settled_ledger : (s : Start) (log : List Moment) (k : ℕ) (r new : Record) (seat : Seat) (n m : ℕ) → cluster_of r ≡ record_of (world_of s log) → seat ≡ seat_of (ticket_of s log k) → seat.raised ≡ Some n → IsRaised r n
+    → new ≡ record r { safe = to_z w64 n } → (ticket_of s log k).raised ≡ Some m → (cluster_of new).ledger ≡ record { safe = suc m; pending = (world_of s log).pending; term = (world_of s log).term }
 settled_ledger s log k r new seat n m is seat_is raised in_it new_is own =
     let same : n ≡ m = some_number n m (sym raised ∙ ap (λ (x : Seat). x.raised) seat_is ∙ own) in
     let safe : count_of new.safe ≡ suc m = ap (λ (x : Record). count_of x.safe) new_is ∙ ap count_of in_it.signed ∙ ap suc same in
@@ -258,8 +259,8 @@ settled_plan s log k root plan p can plan_is goes =
 pub may_swap_settle : (s : Start) (log : List Moment) (k : ℕ) (root : Root) (info : Info) (cluster : Record) (plan p : Plan) (next : ℕ) → IsMadeInfo s log k info → InfosAfter s log → IsUnpruned (ticket_of s log k)
     → CanSettle s (ticket_of s log k) (root_of root) → (ticket_of s log k).term ≡ (world_of s log).term
     → IsPlanOf (world_of s log) plan → ((f : Formats) (w : World) (t : Ticket) (c : Swap) (n : ℕ) → IsPlanOf w plan → fin.get w.tickets k ≡ Some t → swap f t ≡ Some c → t.raised ≡ Some n → IsPlanOf (settled_of f w k (Some t)) p)
-    → ((n : ℕ) → (ticket_of s log k).raised ≡ Some n → (cluster_of cluster).ledger ≡ record { safe = suc n; pending = (world_of s log).pending; term = (world_of s log).term }) → map op_of cluster.ops ≡ record_ops p.ops p.deletes → next ≡ (world_of s log).next_id
-    → MaySwap s log k SettleStep WasSettled cluster (Some root) None (Some info) (Some p) next
+    → ((n : ℕ) → (ticket_of s log k).raised ≡ Some n → (cluster_of cluster).ledger ≡ record { safe = suc n; pending = (world_of s log).pending; term = (world_of s log).term }) → map op_of cluster.ops ≡ record_ops p.ops p.deletes
+    → next ≡ (world_of s log).next_id → MaySwap s log k SettleStep WasSettled cluster (Some root) None (Some info) (Some p) next
 may_swap_settle s log k root info cluster plan p next made served unpruned can present plan_is goes ledger ops next_is =
     let there = (out_is s log k can.put.out).there in
     let is = settled_is (formats_of s) (world_of s log) k (ticket_of s log k) can.change can.n there can.is can.put.raised in
@@ -268,7 +269,8 @@ may_swap_settle s log k root info cluster plan p next made served unpruned can p
     record {
       swaps = refl;
       answers = refl;
-      allows = λ image tells same. Settling k image (record { t = ticket_of s log k; s = can.change; n = can.n; may = may_settle s log k (root_of root) can; present = present; info = final.0; results = final.1; made = final.2; work = final.3 }) same;
+      allows =
+          λ image tells same. Settling k image (record { t = ticket_of s log k; s = can.change; n = can.n; may = may_settle s log k (root_of root) can; present = present; info = final.0; results = final.1; made = final.2; work = final.3 }) same;
       cluster_is = cluster_from _ cluster p new (ledger can.n can.put.raised ∙ ap ledger_of (sym is)) ops;
       root_is = λ old h. can.root_is ∙ ap (λ (w : World). w.root) (sym is);
       infos_are = served.more k (root_of root) info final.0 final.1 final.2 made can present unpruned final.3;
@@ -291,7 +293,8 @@ settled_puts s old k root can =
     ap (λ (w : World). or_no_ticket (fin.get w.tickets k)) (settled_is (formats_of s) (world_of s old) k (ticket_of s old k) can.change can.n (out_is s old k can.put.out).there can.is can.put.raised)
     ∙ ap or_no_ticket (put_there (world_of s old).tickets k (settle (ticket_of s old k)))
 
-pub settled_ticket : (s : Start) (old mid new : List Moment) (k : ℕ) (root : RootData) → mid ≡ old → CanSettle s (ticket_of s old k) root → Added s mid new k SettleStep WasSettled → ticket_of s new k ≡ record (ticket_of s old k) { settled = true }
+pub settled_ticket : (s : Start) (old mid new : List Moment) (k : ℕ) (root : RootData) → mid ≡ old → CanSettle s (ticket_of s old k) root → Added s mid new k SettleStep WasSettled
+    → ticket_of s new k ≡ record (ticket_of s old k) { settled = true }
 settled_ticket s old mid new k root e can a = added_ticket s old new k SettleStep WasSettled (added_from s old mid new k SettleStep WasSettled e a) k ∙ settled_puts s old k root can
 
 -- after a record swap that failed the ticket is as before, or as where it was made
@@ -309,7 +312,8 @@ settle_left s old new k root (Ok n) can did = tt
 settle_left s old new k root (Err steps.Memory) can did = ap (λ (l : List Moment). ticket_of s l k) did
 settle_left s old new k root (Err steps.TurnsSpent) can never = absurd never
 settle_left s old new k root (Err (steps.Refused code.DepotFault)) can did =
-    fell (formats_of s) (world_of s old) (settled_of (formats_of s) (world_of s old) k (fin.get (world_of s old).tickets k)) did.image k (ticket_of s old k) (settle (ticket_of s old k)) (ticket_of s new k) refl (settled_puts s old k root can) (added_ticket s old new k SettleStep (Refused DepotFault) did k)
+    fell (formats_of s) (world_of s old) (settled_of (formats_of s) (world_of s old) k (fin.get (world_of s old).tickets k)) did.image k (ticket_of s old k)
+    (settle (ticket_of s old k)) (ticket_of s new k) refl (settled_puts s old k root can) (added_ticket s old new k SettleStep (Refused DepotFault) did k)
 settle_left s old new k root (Err (steps.Refused x)) can did = added_ticket s old new k SettleStep (Refused (refusal_of x)) did k
 
 -- ---- an op leaves
@@ -385,5 +389,6 @@ drop_left s old new k (Ok n) can did = tt
 drop_left s old new k (Err steps.Memory) can did = ap (λ (l : List Moment). ticket_of s l k) did
 drop_left s old new k (Err steps.TurnsSpent) can never = absurd never
 drop_left s old new k (Err (steps.Refused code.DepotFault)) can did =
-    fell (formats_of s) (world_of s old) (dropped_of (world_of s old) k (fin.get (world_of s old).tickets k)) did.image k (ticket_of s old k) (end (ticket_of s old k)) (ticket_of s new k) refl (dropped_puts s old k can) (added_ticket s old new k DroppedStep (Refused DepotFault) did k)
+    fell (formats_of s) (world_of s old) (dropped_of (world_of s old) k (fin.get (world_of s old).tickets k)) did.image k (ticket_of s old k)
+    (end (ticket_of s old k)) (ticket_of s new k) refl (dropped_puts s old k can) (added_ticket s old new k DroppedStep (Refused DepotFault) did k)
 drop_left s old new k (Err (steps.Refused x)) can did = added_ticket s old new k DroppedStep (Refused (refusal_of x)) did k

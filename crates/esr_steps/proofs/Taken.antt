@@ -1,7 +1,7 @@
 -- A unit that is given.
 use Rattle.std.proofs.Common.{◌≡◌, ℕ, Bool, true, false, ◌&&◌, List, [], ◌∷◌, map, Option, Some, None, option_map, refl, sym, ap, ◌∙◌, subst, inl, inr}
 use Rattle.std.specs.Prelude.{if◌then◌else◌, ◌==◌}
-use Rattle.std.proofs.lemmas.Bool.{eqb-true}
+use Rattle.std.proofs.lemmas.Bool.{eqb-true, and_parts}
 use Rattle.std.specs.FinMap as fin
 use Rattle.esr_model.specs.Finalize.{finalized_root}
 use Rattle.esr_model.specs.Values.{Bytes, Has, IndexRef, RootData, SnapInfo, ShardResult, ReadsBack, Formats}
@@ -15,7 +15,7 @@ use Rattle.esr_core.specs.Allowed.{Gives, Giving, GivingNothing}
 use Rattle.esr_core.specs.Tracked.{Tracked}
 use Rattle.esr_core.specs.Turns.{cleaning_ticket}
 use Rattle.esr_root.specs.Root.{Root}
-use Rattle.esr_formats.specs.Formats.{formats}
+use Rattle.esr_core.specs.Laws.RestoreShards.{shard_is as restore_found}
 use Rattle.esr_formats.specs.Ids.{number_of}
 use Rattle.esr_formats.specs.Roots.{root_of, root_kind}
 use Rattle.esr_formats.specs.Infos.{info_of_code}
@@ -35,6 +35,7 @@ use Rattle.esr_steps.specs.Given.{IsRootable, HasRoot, HasNoRoot}
 use Rattle.esr_repo.specs.Next.{Added}
 use Rattle.esr_repo.specs.May.{MayNote}
 use Rattle.esr_repo.specs.Grown.{put_there, reader_there, added_world, added_ticket, added_reader}
+use Rattle.esr_steps.proofs.DeleteMays.{root_kind_is}
 
 -- ---- no unit is ready
 
@@ -69,10 +70,6 @@ rootable w u tracked gives info shards is =
     subst (λ (x : RootData). MayFinalize x (info_of_code info) (map result_of shards)) (sym gives.copy.root) (subst (λ (x : SnapInfo). MayFinalize w.root x (map result_of shards)) (sym work.2) made)
 
 -- ---- it is given
-
-root_kind_is : (s : Start) → (formats_of s).root ≡ root_kind
-unfolding formats
-root_kind_is s = refl
 
 given_so : (s : Start) (w : World) (u : ReadyUnit) (made : Option Root) → GivesUnit w u → HasRoot u made → Gives (formats_of s) w u.op (given_of u)
 given_so s w u made gives has = go u.work refl gives.gives
@@ -146,11 +143,6 @@ some_shard a b q = cc
 no_shard : (b : ShardWork) → None ≡ Some b → ⊥
 no_shard b q = cc
 
-both_true : (a b : Bool) → (a && b) ≡ true → (a ≡ true) × (b ≡ true)
-both_true true true e = (refl, refl)
-both_true true false e = cc
-both_true false b e = cc
-
 -- the shard that is found is of this index and number
 shard_found : (shards : List ShardWork) (index number : ℕ) (s : ShardWork) → shard_of shards index number ≡ Some s → (s.ref.id ≡ index) × (s.number ≡ number)
 shard_found [] index number s e = absurd (no_shard s e)
@@ -159,28 +151,9 @@ shard_found (z ∷ shards) index number s e = go ((z.ref.id == index) && (z.numb
     go : (b : Bool) → ((z.ref.id == index) && (z.number == number)) ≡ b → (if b then Some z else shard_of shards index number) ≡ Some s → (shard_of shards index number ≡ Some s → (s.ref.id ≡ index) × (s.number ≡ number))
         → (s.ref.id ≡ index) × (s.number ≡ number)
     go true is q rest =
-        let h = both_true (z.ref.id == index) (z.number == number) is in
+        let h = and_parts (z.ref.id == index) (z.number == number) is in
         let same : z ≡ s = some_shard z s q in
         (ap (λ (x : ShardWork). x.ref.id) (sym same) ∙ eqb-true z.ref.id index h.0, ap (λ (x : ShardWork). x.number) (sym same) ∙ eqb-true z.number number h.1)
-    go false is q rest = rest q
-
-some_restore : (a b : RestoreShard) → Some a ≡ Some b → a ≡ b
-some_restore a b q = cc
-
-no_restore : (b : RestoreShard) → None ≡ Some b → ⊥
-no_restore b q = cc
-
--- so is that of a restore
-restore_found : (shards : List RestoreShard) (index number : ℕ) (s : RestoreShard) → restore_shard shards index number ≡ Some s → (s.ref.id ≡ index) × (s.number ≡ number)
-restore_found [] index number s e = absurd (no_restore s e)
-restore_found (z ∷ shards) index number s e = go ((z.ref.id == index) && (z.number == number)) refl e (restore_found shards index number s)
-  where
-    go : (b : Bool) → ((z.ref.id == index) && (z.number == number)) ≡ b → (if b then Some z else restore_shard shards index number) ≡ Some s → (restore_shard shards index number ≡ Some s → (s.ref.id ≡ index) × (s.number ≡ number))
-        → (s.ref.id ≡ index) × (s.number ≡ number)
-    go true is q rest =
-        let h = both_true (z.ref.id == index) (z.number == number) is in
-        let same : z ≡ s = some_restore z s q in
-        (ap (λ (x : RestoreShard). x.ref.id) (sym same) ∙ eqb-true z.ref.id index h.0, ap (λ (x : RestoreShard). x.number) (sym same) ∙ eqb-true z.number number h.1)
     go false is q rest = rest q
 
 module _ (s : Start) (old new : List Moment) (u : ReadyUnit) (made : Option Root) (gives : GivesUnit (world_of s old) u) (has : HasRoot u made) where
@@ -286,7 +259,8 @@ module _ (s : Start) (old new : List Moment) (u : ReadyUnit) (made : Option Root
       let stays = rooted_restore w u.op shard.index.number shard.number (fin.get w.restores u.op) in
       let safe : (world_of s new).safe ≡ w.safe = ap (λ (x : World). x.safe) world ∙ ap (λ (x : World). x.safe) same ∙ stays.0 in
       let root : (world_of s new).root ≡ w.root = ap (λ (x : World). x.root) world ∙ ap (λ (x : World). x.root) same ∙ stays.1 in
-      record { new_root = none uuid shard index place is; base = base; copy = record { safe = gives.copy.safe ∙ sym safe; root = gives.copy.root ∙ sym root } }
+      let writes_none : made ≡ None = none (λ info shards final. let same_work : works.RestoreShard uuid shard index place ≡ works.Finalize info shards = sym is ∙ final in cc) in
+      record { new_root = writes_none; base = base; copy = record { safe = gives.copy.safe ∙ sym safe; root = gives.copy.root ∙ sym root } }
   bare_by none given given_is a work is base = tt
 
   pub bare : HasNoRoot u made → (given : Given) → IsBased u → given ≡ given_of u → Added s old new 0 TakeStep (Gave u.ticket u.op given) → IsBare s new (record { ready = u; new_root = made })

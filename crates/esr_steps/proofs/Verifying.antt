@@ -1,5 +1,5 @@
 -- The steps of a verification.
-use Rattle.std.proofs.Common.{◌≡◌, ◌≢◌, ℕ, suc, ◌+◌, ◌<◌, ◌≤◌, List, ◌++◌, map, Option, Some, None, Result, Ok, Err, IfOk, refl, sym, ap, ◌∙◌, subst, inl, inr, arith}
+use Rattle.std.proofs.Common.{◌≡◌, ◌≢◌, ℕ, suc, ◌+◌, ◌<◌, ◌≤◌, List, ◌++◌, map, Option, Some, None, Result, Ok, Err, IfOk, refl, sym, ap, ◌∙◌, subst, inl, inr}
 use Rattle.esr_model.specs.Names.{BlobName, Latest, TestNode}
 use Rattle.esr_model.specs.Values.{Bytes}
 use Rattle.esr_model.specs.Kept.{first_id}
@@ -32,6 +32,7 @@ use Rattle.esr_steps.proofs.CallerSteps.{refused_caller, undrawn_caller}
 use Rattle.esr_steps.proofs.Stepping.{did_from}
 use Rattle.esr_steps.proofs.Reading.{found_there, found_none}
 use Rattle.esr_steps.proofs.Written.{commit_from, fetch_from}
+use Rattle.esr_steps.proofs.Clones.{one_more}
 
 -- an id was drawn
 drawn_is : (c : Caller) → (c.drawn ≡ None → ⊥) → (id : ℕ) × (c.drawn ≡ Some id)
@@ -46,9 +47,6 @@ drawn_is c still = go c.drawn refl
 drawn_plan : (w : World) (next : ℕ) (p : Plan) → IsPlanOf w p → IsPlanOf (record w { next_id = next }) p
 drawn_plan w next p h = record { ops = h.ops; deletes = h.deletes; completed = h.completed; seats = h.seats; next_op = h.next_op; next_ticket = h.next_ticket; restores = h.restores; restore_count = h.restore_count; readers = h.readers }
 
-next_one : (n next : ℕ) → next ≡ n + 1 → next ≡ suc n
-next_one n next e = omega (arith, e)
-
 may_draw_test : (s : Start) (old log : List Moment) → log ≡ old → CanDrawTest (caller_of s old) → MayDrawTest (world_of s log)
 may_draw_test s old log e before = let can : CanDrawTest (caller_of s log) = subst (λ (l : List Moment). CanDrawTest (caller_of s l)) (sym e) before in record { undrawn = can.undrawn; unspent = can.unspent }
 
@@ -57,7 +55,7 @@ pub may_note_draw_test : (s : Start) (old log : List Moment) (first next : ℕ) 
     → MayNote s log 0 (ReadStep DrawTest) (DrawnFrom first) None next
 may_note_draw_test s old log first next e before first_is next_is below =
     let idle = may_draw_test s old log e before in
-    let is : next ≡ suc (world_of s log).next_id = next_one (world_of s log).next_id next next_is in
+    let is : next ≡ suc (world_of s log).next_id = one_more (world_of s log).next_id next next_is in
     record {
       plain = refl;
       allows = λ image tells same. subst (λ (n : ℕ). Allows (formats_of s) s.part_size (world_of s log) 0 (ReadStep DrawTest) (DrawnFrom n) image) (sym first_is)
@@ -74,7 +72,7 @@ may_refuse_draw_test s old log next e before next_is spent =
       plain = refl;
       allows = λ image tells same. subst (λ (n : ℕ). Allows (formats_of s) s.part_size (world_of s log) 0 (ReadStep DrawTest) (Refused (IdsSpent n)) image) (sym next_is)
           (Verifying DrawTest (Refused (IdsSpent (world_of s log).next_id)) image
-          (TestSpent image idle (subst (λ (n : ℕ). first_id (suc (world_of s log).term) ≤ n) (next_one (world_of s log).next_id ((world_of s log).next_id + 1) refl) spent) same));
+          (TestSpent image idle (subst (λ (n : ℕ). first_id (suc (world_of s log).term) ≤ n) (one_more (world_of s log).next_id ((world_of s log).next_id + 1) refl) spent) same));
     }
 
 pub drawn_caller : (law : CallersTold) (s : Start) (old mid new : List Moment) (first : ℕ) → mid ≡ old → Added s mid new 0 (ReadStep DrawTest) (DrawnFrom first) → caller_of s new ≡ record (caller_of s old) { drawn = Some first }
@@ -212,7 +210,8 @@ removed_did s old mid new step slice names r e is same did =
     did_from s old mid new 0 (ReadStep (RemoveTests (map name_of names))) (λ _. WasRemoved) r e
     (subst (λ (y : Step). Did s mid new 0 y (λ _. WasRemoved) r) (is ∙ ap (λ (xs : List CodeName). ReadStep (RemoveTests (map name_of xs))) same) did)
 
-pub removed_caller : (law : CallersTold) (s : Start) (old new : List Moment) (names : List BlobName) → Added s old new 0 (ReadStep (RemoveTests names)) WasRemoved → caller_of s new ≡ record (caller_of s old) { removed = names ++ (caller_of s old).removed }
+pub removed_caller : (law : CallersTold) (s : Start) (old new : List Moment) (names : List BlobName) → Added s old new 0 (ReadStep (RemoveTests names)) WasRemoved
+    → caller_of s new ≡ record (caller_of s old) { removed = names ++ (caller_of s old).removed }
 removed_caller law s old new names a = law s old new 0 (ReadStep (RemoveTests names)) WasRemoved a
 
 -- ---- it ends

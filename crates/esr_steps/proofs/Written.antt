@@ -53,7 +53,8 @@ begin_latest : (s : Start) (log : List Moment) (k n : ℕ) → CanPut s (ticket_
 begin_latest s log k n can = record { is = refl; begins = λ named image tells same. BeginningLatest k image (putting s log k n can) same; fails = λ named image tells same. BeginLatestFails k image (putting s log k n can) same }
 
 begin_by : (s : Start) (log : List Moment) (k : ℕ) (name : BlobName) → AreOfOps (world_of s log) → CanBegin s (ticket_of s log k) name → MayBegin s log k (BeginStep name) name
-begin_by s log k name of_ops (inl h) = record { is = refl; begins = λ named image tells same. Beginning k name image (committable s log k name h.0 of_ops h.1 named) same; fails = λ named image tells same. BeginFails k name image (committable s log k name h.0 of_ops h.1 named) same }
+begin_by s log k name of_ops (inl h) =
+    record { is = refl; begins = λ named image tells same. Beginning k name image (committable s log k name h.0 of_ops h.1 named) same; fails = λ named image tells same. BeginFails k name image (committable s log k name h.0 of_ops h.1 named) same }
 begin_by s log k name of_ops (inr h) = subst (λ (n : BlobName). MayBegin s log k (BeginStep n) n) (sym h.0) (begin_latest s log k h.1.0 h.1.1)
 
 pub may_begin : (s : Start) (old log : List Moment) (k : ℕ) (name : BlobName) → log ≡ old → AreOfOps (world_of s log) → CanBegin s (ticket_of s old k) name → MayBegin s log k (BeginStep name) name

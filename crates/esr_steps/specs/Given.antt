@@ -1,8 +1,6 @@
 -- The unit that a take gives.
 use Rattle.std.specs.Prelude.{◌≡◌, List, map, Option, Some, None}
-use Rattle.esr_names.specs.declared.ids.Id.{Id}
-use Rattle.esr_names.specs.declared.blob.ShardId.{ShardId}
-use Rattle.esr_model.specs.Values.{Bytes, ReadsBack}
+use Rattle.esr_model.specs.Values.{ReadsBack}
 use Rattle.esr_model.specs.Finalize.{finalized_root}
 use Rattle.esr_meta.specs.Info.{Info}
 use Rattle.esr_root.specs.Root.{Root}
@@ -28,6 +26,6 @@ pub record IsRootFor (u : ReadyUnit) (made : Option Root) (info : Info) (shards 
 abbrev pub HasRoot : ReadyUnit → Option Root → Type 0
 HasRoot u made = (info : Info) (shards : List ShardResult) → u.work ≡ works.Finalize info shards → IsRootFor u made info shards
 
--- a restore writes none
+-- no unit but a finalization writes one
 abbrev pub HasNoRoot : ReadyUnit → Option Root → Type 0
-HasNoRoot u made = (uuid : Id) (shard : ShardId) (index place : Bytes) → u.work ≡ works.RestoreShard uuid shard index place → made ≡ None
+HasNoRoot u made = ((info : Info) (shards : List ShardResult) → u.work ≡ works.Finalize info shards → ⊥) → made ≡ None

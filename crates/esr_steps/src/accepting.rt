@@ -9,6 +9,7 @@ ghost use Rattle.esr_steps.specs.Asked.{entry_of, as_op, IsListed};
 ghost use Rattle.esr_repo.specs.Next.{IsLive, GoesOn, AddedOr};
 ghost use Rattle.esr_repo.specs.May.{MaySwap, MayRefuse};
 
+use crate::renewing::with_ops;
 use esr_accept::{accept, accept_cleanup, accept_delete};
 use esr_depot::Depot;
 use esr_desk::{EntryRefusal, Step, StepRefusal};
@@ -106,20 +107,12 @@ pub(crate) fn accepted<D: Depot, K: Told>(
     ensures err { IfErr result (λ e. IfSome (entry_of e) (λ r. MayRefuse K.start repo.now 0 (AskStep (asked_of command.now)) (refusal_of r))) }
 {
     repo.rules();
+    let cluster = repo.record().try_clone(alloc)?;
     let (progress, accepted) = listed(repo, alloc, command)?;
-    let mut cluster = repo.record().try_clone(alloc)?;
-    cluster.ops = progress.record_ops(alloc)?;
     let first = repo.next_id();
     let next = Id {
         number: first.number + u128::from(accepted.drawn),
     };
-    let renewed = Renewed {
-        cluster,
-        root: None,
-        left: None,
-        info: None,
-        progress: Some(progress),
-        next,
-    };
+    let renewed = with_ops(alloc, cluster, None, None, None, progress, next)?;
     Ok((accepted.op, renewed))
 }

@@ -8,6 +8,7 @@ ghost use Rattle.esr_desk.specs.Outcome.{take_reply};
 ghost use Rattle.esr_desk.specs.Readers.{TookUnit, IsBare};
 ghost use Rattle.esr_desk.specs.declared.refusal.StepRefusal.{StepRefusal};
 ghost use Rattle.esr_repo.specs.Next.{Did};
+ghost use Rattle.esr_steps.specs.Given.{HasNoRoot};
 
 use crate::accepting::{accepted, refuse_asked};
 use crate::taking::give;
@@ -52,6 +53,7 @@ pub fn take<D: Depot, K: Told>(
     ensures step { Did K.start repo.old repo.new 0 TakeStep take_reply result }
     ensures took { IfOk result (λ o. IfSome o (λ u. TookUnit K.start repo.new u)) }
     ensures bare { IfOk result (λ o. IfSome o (λ u. IsBare K.start repo.new u)) }
+    ensures rest { IfOk result (λ o. IfSome o (λ u. HasNoRoot u.ready u.new_root)) }
 {
     repo.check(0, Step::Take)?;
     if let Some((progress, ready)) = repo.ready(alloc)? {

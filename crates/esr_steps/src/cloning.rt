@@ -1,19 +1,25 @@
 //! The step that asks for a clone.
-ghost use Rattle.std.specs.Prelude.{◌≡◌, ◌<◌, ◌^◌, Option, Some, None, length, IfOk};
+ghost use Rattle.std.specs.Prelude.{◌≡◌, ◌<◌, ◌^◌, List, Option, Some, None, length, map, IfOk};
+ghost use Rattle.esr_model.specs.Values.{Bytes, IndexRef};
 ghost use Rattle.esr_core.specs.Restores.{AreOnce};
 ghost use Rattle.esr_core.specs.Entry.{CloneOf as Taken, Clone, AskStep, Accepted};
+ghost use Rattle.esr_core.specs.After.{chosen_refs};
+ghost use Rattle.esr_core.specs.Allowed.{IsListed};
+ghost use Rattle.esr_formats.specs.Refs.{ref_of_code, AreApart};
+ghost use Rattle.esr_progress.specs.Infos.{HasIndices};
 ghost use Rattle.esr_accept.specs.Accepting.{IsCloneRefused, Clonable};
 ghost use Rattle.esr_desk.specs.Entries.{cloned_of, step_of};
-ghost use Rattle.esr_desk.specs.Start.{world_of};
+ghost use Rattle.esr_desk.specs.Start.{formats_of, world_of};
 ghost use Rattle.esr_repo.specs.Next.{IsLive, GoesOn, AddedOr, Did};
 ghost use Rattle.esr_repo.specs.May.{MaySwap};
 
 use crate::accepting::refuse_asked;
+use crate::renewing::with_ops;
 use crate::restoring::indices_of;
 use esr_accept::{chosen, clonable, open_clone};
 use esr_depot::Depot;
 use esr_desk::{Answer, CloneAsk, CloneOf, Step, StepRefusal};
-use esr_names::Id;
+use esr_names::{Id, IndexRefs};
 use esr_ops::{Command, Refusal, index_names_copy};
 use esr_repo::{Renewed, Repo, Told};
 use std::alloc::{AllocError, Global};
@@ -122,6 +128,24 @@ fn accept_clone<D: Depot, K: Told>(
     Ok(op)
 }
 
+/// The indices that a clone of this snapshot takes.
+fn chosen_refs<D: Depot, K: Told>(
+    repo: &Repo<D, K>,
+    alloc: Global,
+    uuid: Id,
+    ask: &CloneAsk<'_>,
+) -> Result<IndexRefs, AllocError>
+    requires live { IsLive K.start repo.now }
+    requires once { AreOnce ask.now.indices.now }
+    requires listed { (name : Bytes) × IsListed (world_of K.start repo.now) name uuid.number }
+    ensures chosen { IfOk result (λ refs. (all : List IndexRef) × HasIndices (formats_of K.start) (world_of K.start repo.now) K.start.tells uuid.number all
+        × AreApart all × (map ref_of_code refs ≡ chosen_refs all ask.now.indices.now)) }
+    ensures apart { IfOk result (λ refs. AreApart (map ref_of_code refs)) }
+{
+    let all = indices_of(repo, alloc, uuid)?;
+    chosen(alloc, &all, ask.indices)
+}
+
 /// The op as which a clone of this snapshot is accepted, the step that tells what it takes, and what is kept then.
 fn cloned<D: Depot, K: Told>(
     repo: &Repo<D, K>,
@@ -138,27 +162,21 @@ fn cloned<D: Depot, K: Told>(
 {
     repo.rules();
     let first = repo.next_id();
-    let all = indices_of(repo, alloc, uuid)?;
-    let refs = chosen(alloc, &all, ask.indices)?;
+    let refs = chosen_refs(repo, alloc, uuid, ask)?;
+    let cluster = repo.record().try_clone(alloc)?;
     let progress = open_clone(repo.plan(), alloc, first, uuid, ask.name, &refs, ask.moment)?;
-    let mut cluster = repo.record().try_clone(alloc)?;
-    cluster.ops = progress.record_ops(alloc)?;
-    let taken = CloneOf {
-        source: uuid,
-        indices: refs,
-    };
-    let step = takes(alloc, ask, taken)?;
     let op = repo.next_op();
     let Some(next) = repo.id_after(1) else {
         unreachable!();
     };
-    let renewed = Renewed {
-        cluster,
-        root: None,
-        left: None,
-        info: None,
-        progress: Some(progress),
-        next,
+    let renewed = with_ops(alloc, cluster, None, None, None, progress, next)?;
+    let taken = CloneOf {
+        source: uuid,
+        indices: refs,
+    };
+    let Ok(step) = takes(alloc, ask, taken) else {
+        drop(renewed);
+        return Err(AllocError);
     };
     Ok((op, step, renewed))
 }

@@ -19,7 +19,7 @@ ghost use Rattle.esr_desk.specs.Delete.Conditions.{CanPlan, CanSettleDelete, Can
 ghost use Rattle.esr_repo.specs.Next.{IsLive, GoesOn, Did};
 ghost use Rattle.esr_repo.specs.May.{MaySwap};
 
-use crate::renewing::settled_record;
+use crate::renewing::{settled_record, with_ops};
 use crate::taking::info_copy;
 use esr_depot::Depot;
 use esr_desk::{Answer, BlobNames, EntryRefusal, Planned, Prune, Step, StepRefusal};
@@ -191,19 +191,12 @@ fn pruned<D: Depot, K: Told>(
     ensures { IfOk result (λ r. MaySwap K.start repo.now ticket (PruneStep SettlePruned) WasSettled r.cluster r.root r.left r.info r.progress r.next.number) }
 {
     repo.rules();
-    let mut cluster = settled_record(repo, alloc, ticket)?;
+    let cluster = settled_record(repo, alloc, ticket)?;
     let root = root.try_clone(alloc)?;
     let left = left_infos(alloc, repo.infos(), root.snapshots.as_slice())?;
     let progress = repo.plan().delete_settled(alloc, ticket)?;
-    cluster.ops = progress.record_ops(alloc)?;
-    Ok(Renewed {
-        cluster,
-        root: Some(root),
-        left: Some(left),
-        info: None,
-        progress: Some(progress),
-        next: repo.next_id(),
-    })
+    let next = repo.next_id();
+    with_ops(alloc, cluster, Some(root), Some(left), None, progress, next)
 }
 
 /// Makes the root that the ticket committed the safe one. A delete leaves the list, a cleanup stays.

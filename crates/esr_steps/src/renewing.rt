@@ -1,12 +1,12 @@
 //! What a repository keeps after the record swap of a ticket.
-ghost use Rattle.std.specs.Prelude.{◌≡◌, ◌<◌, ◌^◌, ◌≤ℤ◌, ℕ, ℤ, negsuc, suc, Some, IfOk};
-ghost use Rattle.esr_core.specs.World.{record_of};
+ghost use Rattle.std.specs.Prelude.{◌≡◌, ◌<◌, ◌^◌, ◌≤ℤ◌, ℕ, ℤ, negsuc, suc, map, Some, IfOk};
+ghost use Rattle.esr_core.specs.World.{record_of, record_ops};
 ghost use Rattle.esr_core.specs.After.{raised};
 ghost use Rattle.esr_core.specs.Entry.{RaiseStep, SettleStep, DroppedStep, RaisedTo, WasSettled, HasEnded};
 ghost use Rattle.esr_core.specs.Entry as entry;
 ghost use Rattle.esr_record.specs.declared.steps.RecordRefusal.TheVariants as records;
 ghost use Rattle.esr_formats.specs.Roots.{root_of};
-ghost use Rattle.esr_formats.specs.Clusters.{count_of, cluster_of};
+ghost use Rattle.esr_formats.specs.Clusters.{count_of, cluster_of, op_of};
 ghost use Rattle.esr_desk.specs.Refusals.{refusal_of};
 ghost use Rattle.esr_desk.specs.Start.{world_of, ticket_of};
 ghost use Rattle.esr_desk.specs.Conditions.{CanRaise, IsUnpruned, CanSettle};
@@ -18,6 +18,9 @@ use esr_depot::Depot;
 use esr_desk::EntryRefusal;
 use esr_formats::write_info;
 use esr_meta::SnapInfo;
+use esr_names::Id;
+use esr_opening::SnapInfos;
+use esr_progress::Progress;
 use esr_record::{ClusterRecord, RecordRefusal};
 use esr_repo::{Renewed, Repo, Told};
 use esr_root::RootData;
@@ -45,6 +48,31 @@ pub(crate) fn entry_refusal(refusal: RecordRefusal) -> EntryRefusal
         RecordRefusal::GenerationsSpent { number } => EntryRefusal::GenerationsSpent { number },
         RecordRefusal::TermsSpent { number } => EntryRefusal::TermsSpent { number },
     }
+}
+
+/// What is kept with this record, into which the ops of the list go.
+pub(crate) fn with_ops(
+    alloc: Global,
+    mut cluster: ClusterRecord,
+    root: Option<RootData>,
+    left: Option<SnapInfos>,
+    info: Option<SnapInfo>,
+    progress: Progress,
+    next: Id,
+) -> Result<Renewed, AllocError>
+    ensures is { IfOk result (λ r. r ≡ record { cluster = r.cluster; root = root; left = left; info = info; progress = Some progress; next = next }) }
+    ensures ledger { IfOk result (λ r. (cluster_of r.cluster).ledger ≡ (cluster_of cluster).ledger) }
+    ensures ops { IfOk result (λ r. map op_of r.cluster.ops ≡ record_ops progress.ops progress.deletes) }
+{
+    cluster.ops = progress.record_ops(alloc)?;
+    Ok(Renewed {
+        cluster,
+        root,
+        left,
+        info,
+        progress: Some(progress),
+        next,
+    })
 }
 
 /// What is kept after a ticket raised a generation.
@@ -135,19 +163,12 @@ pub(crate) fn settled<D: Depot, K: Told>(
     ensures { IfOk result (λ r. MaySwap K.start repo.now ticket SettleStep WasSettled r.cluster r.root r.left r.info r.progress r.next.number) }
 {
     repo.rules();
-    let mut cluster = settled_record(repo, alloc, ticket)?;
+    let cluster = settled_record(repo, alloc, ticket)?;
     let root = root.try_clone(alloc)?;
     let info = made_info(repo, alloc, ticket)?;
     let progress = repo.plan().finalized(alloc, ticket)?;
-    cluster.ops = progress.record_ops(alloc)?;
-    Ok(Renewed {
-        cluster,
-        root: Some(root),
-        left: None,
-        info: Some(info),
-        progress: Some(progress),
-        next: repo.next_id(),
-    })
+    let next = repo.next_id();
+    with_ops(alloc, cluster, Some(root), None, Some(info), progress, next)
 }
 
 /// What is kept after the op of a ticket left.
@@ -162,15 +183,8 @@ pub(crate) fn without_op<D: Depot, K: Told>(
     ensures { IfOk result (λ r. MaySwap K.start repo.now ticket DroppedStep HasEnded r.cluster r.root r.left r.info r.progress r.next.number) }
 {
     repo.rules();
-    let mut cluster = repo.record().try_clone(alloc)?;
+    let cluster = repo.record().try_clone(alloc)?;
     let progress = repo.plan().dropped(alloc, ticket)?;
-    cluster.ops = progress.record_ops(alloc)?;
-    Ok(Renewed {
-        cluster,
-        root: None,
-        left: None,
-        info: None,
-        progress: Some(progress),
-        next: repo.next_id(),
-    })
+    let next = repo.next_id();
+    with_ops(alloc, cluster, None, None, None, progress, next)
 }

@@ -5,11 +5,12 @@ ghost use Rattle.esr_core.specs.Entry.{Restore, AskStep, ReadStep, RestoredShard
 ghost use Rattle.esr_core.specs.Allowed.{IsListed};
 ghost use Rattle.esr_formats.specs.Refs.{ref_of_code, AreApart};
 ghost use Rattle.esr_progress.specs.Infos.{HasIndices};
+ghost use Rattle.esr_accept.specs.Accepting.{Restorable};
 ghost use Rattle.esr_desk.specs.Entries.{step_of};
 ghost use Rattle.esr_desk.specs.Own.{reader_of};
 ghost use Rattle.esr_desk.specs.Start.{formats_of, world_of};
 ghost use Rattle.esr_desk.specs.Restore.Conditions.{CanEndRestore};
-ghost use Rattle.esr_repo.specs.Next.{IsLive, Did};
+ghost use Rattle.esr_repo.specs.Next.{IsLive, GoesOn, Did};
 
 use crate::accepting::refuse_asked;
 use esr_accept::{open_restore, restorable};
@@ -51,17 +52,34 @@ pub fn restore<D: Depot, K: Told>(
         (λ accepted. Accepted accepted.op accepted.uuid.number (map ref_of_code accepted.indices)) result }
 {
     repo.check(0, asks(alloc, name, place)?)?;
-    repo.rules();
-    let uuid = match restorable(repo.plan(), repo.safe_root(), name) {
-        Ok(uuid) => uuid,
+    match restorable(repo.plan(), repo.safe_root(), name) {
+        Ok(uuid) => accept_restore(repo, alloc, uuid, name, place),
         Err(refusal) => {
             let refused = asks(alloc, name, place)?;
-            return Err(refuse_asked(repo, refused, refusal));
+            Err(refuse_asked(repo, refused, refusal))
         }
-    };
+    }
+}
+
+/// A restore of this snapshot is accepted.
+fn accept_restore<D: Depot, K: Told>(
+    repo: &mut Repo<D, K>,
+    alloc: Global,
+    uuid: Id,
+    name: &SnapName,
+    place: &Text,
+) -> Result<AcceptedRestore, StepRefusal>
+    requires live { IsLive K.start repo.old }
+    requires goes { GoesOn K.start repo.old 0 (AskStep (Restore name.now place.now)) }
+    requires may { Restorable (world_of K.start repo.old) name.now (Ok uuid) }
+    requires room { length repo.old < 2 ^ 41 }
+    ensures { Did K.start repo.old repo.new 0 (AskStep (Restore name.now place.now))
+        (λ accepted. Accepted accepted.op accepted.uuid.number (map ref_of_code accepted.indices)) result }
+{
+    repo.rules();
     let indices = indices_of(repo, alloc, uuid)?;
-    let progress = open_restore(repo.plan(), alloc, uuid, place, &indices)?;
     let told = indices_copy(alloc, &indices)?;
+    let progress = open_restore(repo.plan(), alloc, uuid, place, &indices)?;
     let step = asks(alloc, name, place)?;
     let op = repo.next_op();
     let answer = Answer::AcceptedRestore {

@@ -113,6 +113,7 @@ pub(crate) fn give<D: Depot, K: Told>(
     ensures step { Did K.start repo.old repo.new 0 TakeStep (λ unit. take_reply (Some unit)) result }
     ensures took { IfOk result (λ unit. TookUnit K.start repo.new unit) }
     ensures bare { IfOk result (λ unit. IsBare K.start repo.new unit) }
+    ensures rest { IfOk result (λ unit. HasNoRoot unit.ready unit.new_root) }
 {
     repo.rules();
     let Ok((given, new_root)) = given_and_root(alloc, &ready) else {

@@ -2,6 +2,7 @@
 use Rattle.std.proofs.Common.{◌≡◌, ℕ, ◌==◌, Bool, true, false, true≢false, ◌&&◌, if◌then◌else◌, List, [], ◌∷◌, ◌++◌, Option, Some, None, option_and_then, refl, sym, ap, ◌∙◌, inl, inr}
 use Rattle.std.proofs.lemmas.Bool.Decides.{eqb_tells}
 use Rattle.std.proofs.lemmas.Option.{none-some, same_Some}
+use Rattle.std.proofs.lemmas.Bool.{and_parts}
 use Rattle.esr_core.specs.After.{or_else}
 use Rattle.esr_core.specs.Entry.{Given, GivenRestore, RestoredShard, ReadFails, Step, ReadStep, Reply, Gave, HasEnded, Entry, Moment}
 use Rattle.esr_readers.specs.Readers.{RestoresIn}
@@ -30,10 +31,6 @@ found_at g (m ∷ log) v e = found_by g m log v (g m.entry) refl e (λ h. found_
 
 -- ---- tests
 
-both_true : (a b : Bool) → (a && b) ≡ true → (a ≡ true) × (b ≡ true)
-both_true true b e = (refl, e)
-both_true false b e = absurd (true≢false (sym e))
-
 is_equal : (a b : ℕ) → (a == b) ≡ true → a ≡ b
 is_equal a b e = elim (eqb_tells a b) [ inl t ↦ t.1 | inr t ↦ absurd (true≢false (sym e ∙ t.0)) ]
 
@@ -48,15 +45,18 @@ pub record GivesTo (reply : Reply) (s : ReadShard) (k : ℕ) : Type 0 where
 
 same_given : (a b : ReadShard) → same_shard a b ≡ true → (a.op ≡ b.op) × (a.index ≡ b.index) × (a.number ≡ b.number) × (a.uuid ≡ b.uuid)
 same_given a b e =
-    let x = both_true ((a.op == b.op) && (a.index == b.index) && (a.number == b.number)) (a.uuid == b.uuid) e in
-    let y = both_true ((a.op == b.op) && (a.index == b.index)) (a.number == b.number) x.0 in
-    let z = both_true (a.op == b.op) (a.index == b.index) y.0 in
+    let x = and_parts ((a.op == b.op) && (a.index == b.index) && (a.number == b.number)) (a.uuid == b.uuid) e in
+    let y = and_parts ((a.op == b.op) && (a.index == b.index)) (a.number == b.number) x.0 in
+    let z = and_parts (a.op == b.op) (a.index == b.index) y.0 in
     (is_equal a.op b.op z.0, is_equal a.index b.index z.1, is_equal a.number b.number y.1, is_equal a.uuid b.uuid x.1)
 
 given_to : (ticket op : ℕ) (unit : Given) (s : ReadShard) (k : ℕ) → is_shard op unit s ≡ true → ticket ≡ k → GivesTo (Gave ticket op unit) s k
 given_to ticket op (GivenRestore index number uuid) s k e is =
     let same = same_given (record { op = op; index = index; number = number; uuid = uuid }) s e in
-    record { reply_is = ap (λ (x : ReadShard). Gave ticket x.op (GivenRestore x.index x.number x.uuid)) (λ i. record { op = same.0 i; index = same.1 i; number = same.2 i; uuid = same.3 i }) ∙ ap (λ (x : ℕ). Gave x s.op (GivenRestore s.index s.number s.uuid)) is }
+    record {
+      reply_is = ap (λ (x : ReadShard). Gave ticket x.op (GivenRestore x.index x.number x.uuid)) (λ i. record { op = same.0 i; index = same.1 i; number = same.2 i; uuid = same.3 i })
+          ∙ ap (λ (x : ℕ). Gave x s.op (GivenRestore s.index s.number s.uuid)) is;
+    }
 given_to ticket op unit s k e is = absurd (true≢false (sym e))
 
 gives_by : (reply : Reply) (s : ReadShard) (k : ℕ) → shard_ticket_by reply s ≡ Some k → GivesTo reply s k

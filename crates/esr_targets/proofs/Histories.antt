@@ -1,5 +1,5 @@
 -- The tickets that restored the shards of a history.
-use Rattle.std.proofs.Common.{◌≡◌, ℕ, ◌<◌, ◌≤◌, List, [], ◌∷◌, ◌++◌, Some, append_assoc, refl, sym, ap, ◌∙◌, subst, inl, inr, arith}
+use Rattle.std.proofs.Common.{◌≡◌, ℕ, ◌<◌, ◌≤◌, List, [], ◌∷◌, ◌++◌, Some, append_assoc, sym, ap, ◌∙◌, subst, inl, inr, arith}
 use Rattle.std.specs.FinMap as fin
 use Rattle.std.proofs.lemmas.Option.{same_Some}
 use Rattle.esr_model.specs.Values.{Formats}
@@ -11,7 +11,7 @@ use Rattle.esr_core.specs.Allowed.{Allowed}
 use Rattle.esr_core.specs.History.{world_from, IsLegal}
 use Rattle.esr_core.specs.Tracked.{Tracked}
 use Rattle.esr_core.specs.ReadTracked.{ReadTracked}
-use Rattle.esr_core.specs.Laws.Histories.{legal_parts}
+use Rattle.esr_core.specs.Laws.Histories.{legal_parts, world_parts}
 use Rattle.esr_readers.specs.Readers.{IsThereAs, IsGiven, IsReaderOf}
 use Rattle.esr_desk.specs.Start.{Start, formats_of, world_of, Legal}
 use Rattle.esr_report.specs.Replies.{ReadShard}
@@ -20,10 +20,6 @@ use Rattle.esr_script.specs.declared.item.ScriptLine.{ScriptLine}
 use Rattle.esr_targets.proofs.Splits.{IsBefore, compared}
 use Rattle.esr_targets.proofs.Ended.{EndedAt}
 use Rattle.esr_targets.proofs.Laws.{ReaderLaws}
-
-pub world_both : (f : Formats) (front back : List Moment) (w : World) → world_from f w (front ++ back) ≡ world_from f (world_from f w front) back
-world_both f [] back w = refl
-world_both f (m ∷ front) back w = world_both f front back (after f w m)
 
 one_there : (k : ℕ) (v w : World) (x y : Reader) → v ≡ w → fin.get w.readers k ≡ Some x → fin.get v.readers k ≡ Some y → x ≡ y
 one_there k v w x y same a b = same_Some x y (sym a ∙ ap (λ (z : World). fin.get z.readers k) (sym same) ∙ b)
@@ -68,14 +64,15 @@ module _ (laws : ReaderLaws) (s : Start) (t : Tracked s.world) (l : ReadTracked 
   rises_to front more back is =
       let split : log ≡ front ++ (more ++ back) = is ∙ append_assoc front more back in
       let both = legal_parts (formats_of s) s.part_size front more s.world (legal_front (front ++ more) back is) in
-      subst (λ (w : World). (world_of s front).next_op ≤ w.next_op) (sym (world_both (formats_of s) front more s.world)) (laws.rises (formats_of s) s.part_size (world_of s front) more (tracked_at front (more ++ back) split) both.1)
+      subst (λ (w : World). (world_of s front).next_op ≤ w.next_op) (sym (world_parts (formats_of s) front more s.world)) (laws.rises (formats_of s) s.part_size (world_of s front) more (tracked_at front (more ++ back) split) both.1)
 
   pub rises_after : (front more back : List Moment) (m : Moment) → log ≡ (front ++ m ∷ more) ++ back → (after (formats_of s) (world_of s front) m).next_op ≤ (world_of s (front ++ m ∷ more)).next_op
   rises_after front more back m is =
       let split : log ≡ front ++ (m ∷ (more ++ back)) = is ∙ append_assoc front (m ∷ more) back in
       let both = legal_parts (formats_of s) s.part_size front (m ∷ more) s.world (legal_front (front ++ m ∷ more) back is) in
       let now : Tracked (after (formats_of s) (world_of s front) m) = laws.tracked (formats_of s) s.part_size (world_of s front) (m ∷ []) (tracked_at front (m ∷ (more ++ back)) split) (both.1.0, tt) in
-      subst (λ (w : World). (after (formats_of s) (world_of s front) m).next_op ≤ w.next_op) (sym (world_both (formats_of s) front (m ∷ more) s.world)) (laws.rises (formats_of s) s.part_size (after (formats_of s) (world_of s front) m) more now both.1.1)
+      subst (λ (w : World). (after (formats_of s) (world_of s front) m).next_op ≤ w.next_op) (sym (world_parts (formats_of s) front (m ∷ more) s.world))
+      (laws.rises (formats_of s) s.part_size (after (formats_of s) (world_of s front) m) more now both.1.1)
 
   op_below : (front back : List Moment) → log ≡ front ++ back → (k : ℕ) (q : Reader) → IsReading (world_of s front) k q → q.op < (world_of s front).next_op
   op_below front back is k q reading =
@@ -107,14 +104,16 @@ module _ (laws : ReaderLaws) (s : Start) (t : Tracked s.world) (l : ReadTracked 
             let one : (world_of s a.at.before).next_op ≡ (world_of s front).next_op = ap (λ (x : List Moment). (world_of s x).next_op) same in
             absurd (too_early (omega (arith, one)))
         | inr (inr later) ↦
-            let up : (world_of s front).next_op ≤ (world_of s (front ++ m ∷ later.between)).next_op = rises_to front (m ∷ later.between) (a.at.answer ∷ a.at.after) (a.at.log_is ∙ ap (λ (x : List Moment). x ++ a.at.answer ∷ a.at.after) later.is) in
+            let up : (world_of s front).next_op ≤ (world_of s (front ++ m ∷ later.between)).next_op =
+            rises_to front (m ∷ later.between) (a.at.answer ∷ a.at.after) (a.at.log_is ∙ ap (λ (x : List Moment). x ++ a.at.answer ∷ a.at.after) later.is) in
             absurd (too_early (subst (λ (x : List Moment). (world_of s front).next_op ≤ (world_of s x).next_op) (sym later.is) up))
       ]
 
       pub reader_is : IsReaderOf q a.uuid a.place a.indices
       reader_is =
           let b = asked_before in
-          laws.of (formats_of s) s.part_size s.world a.at.before b.between a.at.answer a.name a.place a.op a.uuid a.indices k q t l (subst (Legal s) b.is (legal_front front (m ∷ back) is)) a.step_is a.accepted (subst (λ (x : List Moment). IsReading (world_of s x) k q) b.is reading) op
+          laws.of (formats_of s) s.part_size s.world a.at.before b.between a.at.answer a.name a.place a.op a.uuid a.indices k q t l
+          (subst (Legal s) b.is (legal_front front (m ∷ back) is)) a.step_is a.accepted (subst (λ (x : List Moment). IsReading (world_of s x) k q) b.is reading) op
 
   -- ---- a ticket that was given for a shard and restored it
 
@@ -123,7 +122,8 @@ module _ (laws : ReaderLaws) (s : Start) (t : Tracked s.world) (l : ReadTracked 
     unknown : (z : Reader) → fin.get (world_of s e.before).readers e.k ≡ Some z → ⊥
     unknown z there =
         let below : e.k < (world_of s e.before).next_ticket = ((reads_at e.before (e.gave ∷ e.after) e.gave_at).tracked.tickets e.k z there).1 in
-        let next : e.k ≡ (world_of s e.before).next_ticket = (laws.takes (formats_of s) s.part_size (world_of s e.before) e.gave e.k shard.op (GivenRestore shard.index shard.number shard.uuid) (allowed_at e.before e.after e.gave e.gave_at) e.gives).number in
+        let next : e.k ≡ (world_of s e.before).next_ticket =
+        (laws.takes (formats_of s) s.part_size (world_of s e.before) e.gave e.k shard.op (GivenRestore shard.index shard.number shard.uuid) (allowed_at e.before e.after e.gave e.gave_at) e.gives).number in
         omega (arith, below, next)
 
     given_first : IsBefore e.before e.gave e.front
@@ -133,7 +133,7 @@ module _ (laws : ReaderLaws) (s : Start) (t : Tracked s.world) (l : ReadTracked 
       | inr (inr later) ↦
           let both = legal_parts (formats_of s) s.part_size e.front (e.m ∷ later.between) s.world (subst (Legal s) later.is (legal_front e.before (e.gave ∷ e.after) e.gave_at)) in
           let x = laws.stay (formats_of s) s.part_size (world_of s e.front) (e.m ∷ later.between) e.k q (tracked_at e.front (e.m ∷ e.back) e.at) (reads_at e.front (e.m ∷ e.back) e.at) both.1 reading.there in
-          absurd (unknown x.q (ap (λ (w : World). fin.get w.readers e.k) (ap (world_of s) later.is ∙ world_both (formats_of s) e.front (e.m ∷ later.between) s.world) ∙ x.there))
+          absurd (unknown x.q (ap (λ (w : World). fin.get w.readers e.k) (ap (world_of s) later.is ∙ world_parts (formats_of s) e.front (e.m ∷ later.between) s.world) ∙ x.there))
     ]
 
     pub reader_for : IsReaderFor q shard
@@ -147,4 +147,4 @@ module _ (laws : ReaderLaws) (s : Start) (t : Tracked s.world) (l : ReadTracked 
         let lw : ReadTracked w = reads_at e.before (e.gave ∷ e.after) e.gave_at in
         let x : IsThereAs (world_from f (after f w e.gave) b.between) e.k given.q =
         laws.stay f s.part_size (after f w e.gave) b.between e.k given.q (laws.tracked f s.part_size w (e.gave ∷ []) tw (both.1.0, tt)) (laws.read_tracked f s.part_size w (e.gave ∷ []) tw lw (both.1.0, tt)) both.1.1 given.there in
-        for_shard e.k shard (after f w e.gave) (world_from f (after f w e.gave) b.between) (world_of s e.front) given x q (ap (world_of s) b.is ∙ world_both f e.before (e.gave ∷ b.between) s.world) reading.there
+        for_shard e.k shard (after f w e.gave) (world_from f (after f w e.gave) b.between) (world_of s e.front) given x q (ap (world_of s) b.is ∙ world_parts f e.before (e.gave ∷ b.between) s.world) reading.there

@@ -154,7 +154,8 @@ line_at moment (line ∷ lines) es rest op number same found = by_item moment li
 
 -- ---- the ops of two stretches
 
-module _ (moment : ℕ) (line : ScriptLine) (earlier lines : List ScriptLine) (fs : List Entry) (on : (es : List Entry) → steps_by es ≡ steps_of moment earlier → ops_from (earlier ++ lines) (es ++ fs) ≡ ops_from earlier es ++ ops_from lines fs) where
+module _ (moment : ℕ) (line : ScriptLine) (earlier lines : List ScriptLine) (fs : List Entry)
+    (on : (es : List Entry) → steps_by es ≡ steps_of moment earlier → ops_from (earlier ++ lines) (es ++ fs) ≡ ops_from earlier es ++ ops_from lines fs) where
   both_asked : (st : Step) (es : List Entry) → steps_by es ≡ st ∷ steps_of moment earlier → ops_by line.number (es ++ fs) (ops_from (earlier ++ lines)) ≡ ops_by line.number es (ops_from earlier) ++ ops_from lines fs
   both_asked st [] same = absurd (nothing_first st (steps_of moment earlier) same)
   both_asked st (e ∷ es) same =

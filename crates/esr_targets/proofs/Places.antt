@@ -20,7 +20,8 @@ abbrev ending : Restoration → Entry
 ending e = record { who = e.ticket; step = ReadStep (RestoredShard e.files e.bytes); reply = HasEnded }
 
 -- by a step
-by_step : (before : List Moment) (who : ℕ) (reply : Reply) (step : Step) (e : Restoration) → Has (restorations_by before who reply step) e → (e.before ≡ before) × (◌≡◌ {A = Entry} (record { who = who; step = step; reply = reply }) (ending e))
+by_step : (before : List Moment) (who : ℕ) (reply : Reply) (step : Step) (e : Restoration) → Has (restorations_by before who reply step) e
+    → (e.before ≡ before) × (◌≡◌ {A = Entry} (record { who = who; step = step; reply = reply }) (ending e))
 by_step before who HasEnded (ReadStep (RestoredShard files bytes)) e (inl is) = (ap (λ (x : Restoration). x.before) (sym is), ap ending is)
 by_step before who HasEnded (ReadStep (RestoredShard files bytes)) e (inr h) = absurd h
 by_step before who reply step e h = absurd h

@@ -84,7 +84,8 @@ opened_reads : (laws : ShelfLaws) (f : Formats) (image : Image) (w : World) → 
 opened_reads laws f image w (OpenedEmpty none) = laws.opened_reads f image.blobs no_record no_root
 opened_reads laws f image w (OpenedRecord cluster text root there reads is) = laws.opened_reads f image.blobs cluster root
 
-module _ (laws : ReaderLaws) (shelf_laws : ShelfLaws) (s : Start) (t : Tracked s.world) (l : ReadTracked s.world) (log : List Moment) (legal : Legal s log) (moment : ℕ) (lines : List ScriptLine) (a : AcceptedLine moment lines log) (shelf : List Shelved) (h : HasShelf s log shelf) where
+module _ (laws : ReaderLaws) (shelf_laws : ShelfLaws) (s : Start) (t : Tracked s.world) (l : ReadTracked s.world) (log : List Moment)
+    (legal : Legal s log) (moment : ℕ) (lines : List ScriptLine) (a : AcceptedLine moment lines log) (shelf : List Shelved) (h : HasShelf s log shelf) where
   told_in : (front back : List Moment) → log ≡ front ++ back → AreTold front × AreTold back
   told_in front back is = told_parts front back (subst AreTold is h.told)
 
@@ -98,12 +99,14 @@ module _ (laws : ReaderLaws) (shelf_laws : ShelfLaws) (s : Start) (t : Tracked s
       let told = (told_in a.at.before (a.at.answer ∷ a.at.after) a.at.log_is).1.0 in
       shelf_laws.asked (formats_of s) s.part_size (world_of s a.at.before) (shelf_at s shelf a.at.before) a.at.answer a.name a.place a.op a.uuid a.indices told.0 law_at_ask (allowed_ask laws s t l log legal moment lines a) told.1 a.step_is a.accepted
 
-  module _ (front back : List Moment) (m : Moment) (is : log ≡ front ++ m ∷ back) (k : ℕ) (q : Reader) (reading : IsReading (world_of s front) k q) (op : q.op ≡ a.op) (held : List (Bytes × Bytes)) (files bytes : ℕ) (restored : AreRestored (formats_of s) q held files bytes) where
+  module _ (front back : List Moment) (m : Moment) (is : log ≡ front ++ m ∷ back) (k : ℕ) (q : Reader) (reading : IsReading (world_of s front) k q)
+      (op : q.op ≡ a.op) (held : List (Bytes × Bytes)) (files bytes : ℕ) (restored : AreRestored (formats_of s) q held files bytes) where
     on_shelf : IsOnShelf (formats_of s) (shelf_at s shelf a.at.before) q files bytes (restored_by (formats_of s) q held files bytes restored)
     on_shelf =
         let b : IsBefore a.at.before a.at.answer front = asked_before laws s t l log legal moment lines a front back m is k q reading op in
         let f : Formats = formats_of s in
-        shelf_laws.gives f s.part_size shelf s.world a.at.before b.between a.at.answer a.name a.place a.op a.uuid a.indices k q files bytes (shelf_laws.opening f h.image shelf s.world h.kept h.opened) (opened_reads shelf_laws f h.image s.world h.opened)
+        shelf_laws.gives f s.part_size shelf s.world a.at.before b.between a.at.answer a.name a.place a.op a.uuid a.indices k q files bytes
+        (shelf_laws.opening f h.image shelf s.world h.kept h.opened) (opened_reads shelf_laws f h.image s.world h.opened)
         (subst (Legal s) b.is (legal_front laws s t l log legal front (m ∷ back) is)) (subst AreTold b.is (told_in front (m ∷ back) is).0) a.step_is a.accepted (subst (λ (x : List Moment). IsReading (world_of s x) k q) b.is reading) op
         (restored_by f q held files bytes restored)
 

@@ -46,13 +46,6 @@ right_has R (x ∷ xs) [] y h m = absurd m
 right_has R (x ∷ xs) (z ∷ ys) y h (inl e) = (x, inl refl, subst (R x) e h.0)
 right_has R (x ∷ xs) (z ∷ ys) y h (inr m) = let (v, vm, r) = right_has R xs ys y h.1 m in (v, inr vm, r)
 
-pub left_has : {A B : Type 0} (R : A → B → Type 0) (xs : List A) (ys : List B) (x : A) → AllPairs R xs ys → Has xs x → (y : B) × Has ys y × R x y
-left_has R [] [] x h m = absurd m
-left_has R [] (z ∷ ys) x h m = absurd h
-left_has R (v ∷ xs) [] x h m = absurd h
-left_has R (v ∷ xs) (z ∷ ys) x h (inl e) = (z, inl refl, subst (λ u. R u z) e h.0)
-left_has R (v ∷ xs) (z ∷ ys) x h (inr m) = let (w, wm, r) = left_has R xs ys x h.1 m in (w, inr wm, r)
-
 -- ---- in order
 
 -- each has the relation to those after it

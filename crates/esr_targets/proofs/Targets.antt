@@ -13,6 +13,7 @@ use Rattle.esr_core.specs.Laws.SortedLists.{Has-sorted, sorted-Has, in_places}
 use Rattle.esr_readers.specs.Readers.{RestoresIn, IsReaderOf}
 use Rattle.esr_readers.specs.RestoredShards.{restores_out}
 use Rattle.esr_script.specs.declared.item.ScriptLine.{ScriptLine}
+use Rattle.esr_model.specs.Lists.{pairs_both}
 use Rattle.esr_desk.specs.Start.{Start, formats_of, world_of, Legal}
 use Rattle.esr_desk.specs.Own.{or_no_reader, reader_of}
 use Rattle.esr_desk.specs.Evidence.{Evidence}
@@ -25,7 +26,7 @@ use Rattle.esr_targets.specs.declared.target.Restored.{Restored}
 use Rattle.esr_targets.specs.Lines.{AreNumbered, ops_of_lines, AcceptedLine}
 use Rattle.esr_targets.specs.Listed.{target_first, line_of, listed}
 use Rattle.esr_targets.specs.Targets.{IsTargetOfShard, IsTargetOfLine, AreSingle, AreTargetsOfLines}
-use Rattle.esr_targets.proofs.Splits.{right_has, left_has, order_pairs}
+use Rattle.esr_targets.proofs.Splits.{right_has, order_pairs}
 use Rattle.esr_targets.proofs.Places.{restored_at, place_restores, IsLater, in_order}
 use Rattle.esr_targets.proofs.Ended.{EndedAt, ended_at}
 use Rattle.esr_targets.proofs.Laws.{ReaderLaws, ShelfLaws}
@@ -144,7 +145,8 @@ module _ (laws : ReaderLaws) (shelf_laws : ShelfLaws) (s : Start) (t : Tracked s
         name_same : IsReaderOf here.q a.uuid a.place a.indices → here.q.name ≡ p.0.name
         name_same reader =
             let one : reader.shard.0 ≡ p.0 =
-            laws.one_id (formats_of s) s.part_size (world_of s a.at.before) a.at.answer a.op a.uuid a.indices reader.shard.0 p.0 (allowed_ask laws s t l log legal moment lines a) a.accepted (in_places a.indices reader.shard reader.there).0 (in_places a.indices p p_there).0
+            laws.one_id (formats_of s) s.part_size (world_of s a.at.before) a.at.answer a.op a.uuid a.indices reader.shard.0 p.0
+            (allowed_ask laws s t l log legal moment lines a) a.accepted (in_places a.indices reader.shard reader.there).0 (in_places a.indices p p_there).0
             (reader.index_is ∙ for_it.index_is) in
             sym reader.name_is ∙ ap (λ (i : IndexRef). i.name) one
 
@@ -161,12 +163,13 @@ module _ (laws : ReaderLaws) (shelf_laws : ShelfLaws) (s : Start) (t : Tracked s
         has_one : (u : Restored T) × Has targets u × IsTargetOfShard c s moment lines log a p files bytes u
         has_one =
             let there : Has (restorations_in [] log) ending = subst (λ (x : List Moment). Has (restorations_in [] x) ending) (sym z.at) (place_restores [] z.front z.back z.m z.k files bytes z.restores) in
-            let (r, r_there, of) = left_has (IsTargetOf c s) (restorations_in [] log) restored ending each there in
+            let (r, r_there, of) = pairs_both (IsTargetOf c s) (restorations_in [] log) restored ending each there in
             listed_there r r_there of
 
       -- ---- no two are of one shard
 
-      module _ (a b : Restoration) (later : IsLater log a b) (r u : RestoredTarget T) (of_r : IsTargetOf c s a r) (of_u : IsTargetOf c s b u) (n : ℕ) (r_line : line_of ops r.op ≡ Some n) (u_line : line_of ops u.op ≡ Some n) (index : u.index ≡ r.index) (shard : u.shard ≡ r.shard) where
+      module _ (a b : Restoration) (later : IsLater log a b) (r u : RestoredTarget T) (of_r : IsTargetOf c s a r) (of_u : IsTargetOf c s b u) (n : ℕ)
+          (r_line : line_of ops r.op ≡ Some n) (u_line : line_of ops u.op ≡ Some n) (index : u.index ≡ r.index) (shard : u.shard ≡ r.shard) where
         split : log ≡ a.before ++ later.m ∷ (later.between ++ later.n ∷ later.after)
         split = later.all_is ∙ ap (λ (x : List Moment). x ++ later.n ∷ later.after) later.is ∙ append_assoc a.before (later.m ∷ later.between) (later.n ∷ later.after)
 
@@ -194,7 +197,8 @@ module _ (laws : ReaderLaws) (shelf_laws : ShelfLaws) (s : Start) (t : Tracked s
             let names : x.shard.0.name ≡ y.shard.0.name = x.name_is ∙ x_name ∙ sym index ∙ y_name ∙ sym y.name_is in
             let ask = line.a in
             let one : x.shard.0 ≡ y.shard.0 =
-            laws.apart (formats_of s) s.part_size (world_of s ask.at.before) ask.at.answer ask.op ask.uuid ask.indices x.shard.0 y.shard.0 (tracked_at laws s t l log legal ask.at.before (ask.at.answer ∷ ask.at.after) ask.at.log_is) (allowed_ask laws s t l log legal moment lines ask) ask.accepted
+            laws.apart (formats_of s) s.part_size (world_of s ask.at.before) ask.at.answer ask.op ask.uuid ask.indices x.shard.0 y.shard.0
+            (tracked_at laws s t l log legal ask.at.before (ask.at.answer ∷ ask.at.after) ask.at.log_is) (allowed_ask laws s t l log legal moment lines ask) ask.accepted
             (in_places ask.indices x.shard x.there).0 (in_places ask.indices y.shard y.there).0 names in
             sym x.index_is ∙ ap (λ (i : IndexRef). i.id) one ∙ y.index_is
 
@@ -205,11 +209,13 @@ module _ (laws : ReaderLaws) (shelf_laws : ShelfLaws) (s : Start) (t : Tracked s
         not_twice =
             let front : List Moment = a.before ++ later.m ∷ later.between in
             let whole : log ≡ (front ++ later.n ∷ []) ++ later.after = later.all_is ∙ ap (λ (x : List Moment). x ++ later.n ∷ later.after) later.is ∙ sym (append_assoc front (later.n ∷ []) later.after) in
-            laws.once (formats_of s) s.part_size s.world a.before later.between later.m later.n a.ticket b.ticket a.files a.bytes b.files b.bytes first.q second.q t l (legal_front laws s t l log legal (front ++ later.n ∷ []) later.after whole) later.first later.second first.reading.there
+            laws.once (formats_of s) s.part_size s.world a.before later.between later.m later.n a.ticket b.ticket a.files a.bytes b.files b.bytes first.q second.q t l
+            (legal_front laws s t l log legal (front ++ later.n ∷ []) later.after whole) later.first later.second first.reading.there
             (subst (λ (x : List Moment). fin.get (world_of s x).readers b.ticket ≡ Some second.q) later.is second.reading.there) (first_op ∙ sym second_op) one_index one_number
 
       are_single : AreSingle targets
-      are_single = sorted_single target_first (listed ops restored) (listed_single ops restored (order_pairs (IsTargetOf c s) (IsLater log) (AreApartBy ops) (λ a b r u of_r of_u later n. not_twice a b later r u of_r of_u n) (restorations_in [] log) restored each (in_order log [] log refl)))
+      are_single = sorted_single target_first (listed ops restored)
+          (listed_single ops restored (order_pairs (IsTargetOf c s) (IsLater log) (AreApartBy ops) (λ a b r u of_r of_u later n. not_twice a b later r u of_r of_u n) (restorations_in [] log) restored each (in_order log [] log refl)))
 
       pub are_of_lines : AreTargetsOfLines c s moment lines log targets
       are_of_lines =

@@ -98,8 +98,22 @@ module _ {p : Plan} {root : RootData} {term next given : ℕ} {begun : Bool} (b 
   abbrev pub world : (safe pending : ℕ) → World
   world safe pending = record b.w { root = root; term = term; next_id = next; safe = safe; pending = pending }
 
+  -- another list that is it
+  pub renewed : (new : Plan) → new ≡ p → IsBoard new root term next given begun
+  renewed new e = subst (λ (q : Plan). IsBoard q root term next given begun) (sym e) b
+
   plan_in : (safe pending : ℕ) → IsPlanOf (world safe pending) p
-  plan_in safe pending = record { ops = b.plan.ops; deletes = b.plan.deletes; completed = b.plan.completed; seats = b.plan.seats; next_op = b.plan.next_op; next_ticket = b.plan.next_ticket; restores = b.plan.restores; restore_count = b.plan.restore_count; readers = b.plan.readers }
+  plan_in safe pending = record {
+    ops = b.plan.ops;
+    deletes = b.plan.deletes;
+    completed = b.plan.completed;
+    seats = b.plan.seats;
+    next_op = b.plan.next_op;
+    next_ticket = b.plan.next_ticket;
+    restores = b.plan.restores;
+    restore_count = b.plan.restore_count;
+    readers = b.plan.readers;
+  }
 
   pub asked_in : IsAskedIn p root term next (world 0 0)
   asked_in = record { plan = plan_in 0 0; root_is = refl; term_is = refl; next_is = refl }
@@ -239,7 +253,17 @@ module _ {p : Plan} {root : RootData} {term next given : ℕ} {begun : Bool} (b 
           planned_there = elim (eqb_tells k k) [ inl it ↦ put_at k true it.0 | inr it ↦ absurd (it.1 refl) ]
 
           plan_of : IsPlanOf planned p
-          plan_of = record { ops = b.plan.ops; deletes = b.plan.deletes; completed = b.plan.completed; seats = planned_seats; next_op = b.plan.next_op; next_ticket = b.plan.next_ticket; restores = b.plan.restores; restore_count = b.plan.restore_count; readers = b.plan.readers }
+          plan_of = record {
+            ops = b.plan.ops;
+            deletes = b.plan.deletes;
+            completed = b.plan.completed;
+            seats = planned_seats;
+            next_op = b.plan.next_op;
+            next_ticket = b.plan.next_ticket;
+            restores = b.plan.restores;
+            restore_count = b.plan.restore_count;
+            readers = b.plan.readers;
+          }
 
           pub settling_delete : ((f : Formats) (w : World) (t : Ticket) (s : Swap) (m : ℕ) → IsPlanOf w p → fin.get w.tickets k ≡ Some t → swap f t ≡ Some s → t.raised ≡ Some m → IsPlanOf (delete_settled f w k (Some t)) new)
               → IsBoard new root term next given true

@@ -16,11 +16,6 @@ use esr_root::{RootData, root_read};
 use esr_scenes::Words;
 use std::alloc::Global;
 
-/// The id of the index of each shard of a history.
-const INDEX: Id = Id {
-    number: (1 << 64) + 1,
-};
-
 fn shard_number(words: &mut Words) -> u32 {
     match words.word().parse() {
         Ok(number) => number,
@@ -30,7 +25,7 @@ fn shard_number(words: &mut Words) -> u32 {
 
 fn shard_of(words: &mut Words) -> ShardId {
     ShardId {
-        index: INDEX,
+        index: Id::new(1, 1),
         number: shard_number(words),
     }
 }

@@ -90,18 +90,6 @@ fn snapshot(
     Ok(())
 }
 
-/// Opens a clone of the snapshot of that uuid, of no names or of one.
-fn begin_clone(
-    alloc: Global,
-    board: &mut Board,
-    uuid: Id,
-    name: &SnapName,
-    indices: &[IndexName],
-) -> Done {
-    let names = one_name(alloc, indices)?;
-    board.open_clone(alloc, uuid, name, &names)
-}
-
 fn open_clone(
     alloc: Global,
     board: &mut Board,
@@ -111,7 +99,8 @@ fn open_clone(
 ) -> Op {
     let uuid = board.clonable(source, name, indices)?;
     let op = board.next_op();
-    begin_clone(alloc, board, uuid, name, indices.as_slice())?;
+    let names = one_name(alloc, indices.as_slice())?;
+    board.open_clone(alloc, uuid, name, &names)?;
     Ok(op)
 }
 
@@ -128,10 +117,9 @@ fn say_op(said: &mut String, op: Op) -> Done {
     Ok(())
 }
 
-/// Says what a line is answered that asks for an op.
-pub(crate) fn asked(alloc: Global, board: &mut Board, line: &str, said: &mut String) -> Done {
-    let item = item_of(alloc, line)?;
-    match &item {
+/// Says what an item is answered that asks for an op.
+fn ask(alloc: Global, board: &mut Board, item: &Item, said: &mut String) -> Done {
+    match item {
         Item::Snapshot { name, indices } => {
             snapshot(alloc, board, name, indices.as_slice(), said)
         }
@@ -147,15 +135,20 @@ pub(crate) fn asked(alloc: Global, board: &mut Board, line: &str, said: &mut Str
     }
 }
 
+/// Says what a line is answered that asks for an op.
+pub(crate) fn asked(alloc: Global, board: &mut Board, line: &str, said: &mut String) -> Done {
+    let item = item_of(alloc, line)?;
+    ask(alloc, board, &item, said)
+}
+
 fn say_uuid(said: &mut String, uuid: Result<Id, Refusal>) -> Done {
     say_id(said, uuid?);
     Ok(())
 }
 
 /// Says the op that a delete would go into, or the uuid of a clone's source or of what would be restored.
-pub(crate) fn would(alloc: Global, board: &Board, line: &str, said: &mut String) -> Done {
-    let item = item_of(alloc, line)?;
-    match &item {
+fn say_found(alloc: Global, board: &Board, item: &Item, said: &mut String) -> Done {
+    match item {
         Item::Clone {
             source,
             name,
@@ -165,6 +158,12 @@ pub(crate) fn would(alloc: Global, board: &Board, line: &str, said: &mut String)
         Item::Restore { name, place: _ } => say_uuid(said, board.restorable(name)),
         _ => Err(Trouble::Unread("not a line that asks a list of ops")),
     }
+}
+
+/// Says what a line would be answered that asks for an op.
+pub(crate) fn would(alloc: Global, board: &Board, line: &str, said: &mut String) -> Done {
+    let item = item_of(alloc, line)?;
+    say_found(alloc, board, &item, said)
 }
 
 /// A snapshot of no index is asked for, with a number in its name.

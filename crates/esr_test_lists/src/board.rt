@@ -125,6 +125,13 @@ pub(crate) fn board_of(opening: Opening<MemDepot>) -> Result<(Board, MemDepot), 
     Ok((board, depot))
 }
 
+/// Puts another list in the place of one.
+fn renew(list: &mut Progress, new: Progress)
+    ensures { list.new ≡ new }
+{
+    *list = new;
+}
+
 /// The one index that a snapshot has.
 fn one_index(alloc: Global, indices: &[IndexRef]) -> Result<IndexRefs, Trouble>
     ensures { IfOk result (λ r. AreApart (map ref_of_code r)) }
@@ -221,7 +228,7 @@ impl Board {
         let after = Id {
             number: next.number + u128::from(accepted.drawn),
         };
-        self.list = list;
+        renew(&mut self.list, list);
         self.next = after;
         Ok(accepted)
     }
@@ -270,7 +277,7 @@ impl Board {
         }
         let taken = self.taken(alloc, source, names)?;
         let list = open_clone(&self.list, alloc, next, source, name, &taken, 0)?;
-        self.list = list;
+        renew(&mut self.list, list);
         self.begun = true;
         self.next = after;
         Ok(())
@@ -288,7 +295,7 @@ impl Board {
         }
         let indices = self.index_of(alloc, uuid)?;
         let list = open_restore(&self.list, alloc, uuid, place, &indices)?;
-        self.list = list;
+        renew(&mut self.list, list);
         self.begun = true;
         Ok(())
     }
@@ -308,7 +315,7 @@ impl Board {
             return Err(Trouble::Unread("too many ops"));
         }
         let (list, op) = accept_delete(&self.list, alloc, &self.root, self.term, names)?;
-        self.list = list;
+        renew(&mut self.list, list);
         self.begun = true;
         Ok(op)
     }
@@ -319,7 +326,7 @@ impl Board {
             return Err(Trouble::Unread("too many ops"));
         }
         let (list, op) = accept_cleanup(&self.list, alloc)?;
-        self.list = list;
+        renew(&mut self.list, list);
         self.begun = true;
         Ok(op)
     }
@@ -335,7 +342,7 @@ impl Board {
         let Some((list, unit)) = next else {
             return Ok(None);
         };
-        self.list = list;
+        renew(&mut self.list, list);
         self.begun = true;
         self.given += 1;
         Ok(Some(unit))
@@ -359,40 +366,40 @@ impl Board {
             bytes: 7,
         };
         let list = self.list.shard_done(alloc, ticket, &outcome)?;
-        self.list = list;
+        renew(&mut self.list, list);
         self.begun = true;
         Ok(())
     }
 
     /// A unit of a snapshot fails.
     pub(crate) fn unit_failed(&mut self, alloc: Global, ticket: u64) -> Done {
-        let Some(_kept) = self.list.seat(ticket) else {
+        let Some(_) = self.list.seat(ticket) else {
             return Err(Trouble::Unread("no ticket that is out"));
         };
         let list = self.list.unit_failed(alloc, self.term, ticket)?;
-        self.list = list;
+        renew(&mut self.list, list);
         self.begun = true;
         Ok(())
     }
 
     /// A delete or cleanup fails.
     pub(crate) fn delete_failed(&mut self, alloc: Global, ticket: u64) -> Done {
-        let Some(_kept) = self.list.seat(ticket) else {
+        let Some(_) = self.list.seat(ticket) else {
             return Err(Trouble::Unread("no ticket that is out"));
         };
         let list = self.list.delete_failed(alloc, self.term, ticket)?;
-        self.list = list;
+        renew(&mut self.list, list);
         self.begun = true;
         Ok(())
     }
 
     /// A ticket raises a generation.
     pub(crate) fn raised(&mut self, alloc: Global, ticket: u64, generation: u64) -> Done {
-        let Some(_kept) = self.list.seat(ticket) else {
+        let Some(_) = self.list.seat(ticket) else {
             return Err(Trouble::Unread("no ticket that is out"));
         };
         let list = self.list.raised(alloc, ticket, generation)?;
-        self.list = list;
+        renew(&mut self.list, list);
         self.begun = true;
         Ok(())
     }
@@ -409,7 +416,7 @@ impl Board {
             return Err(Trouble::Unread("not a finalization"));
         }
         let list = self.list.finalized(alloc, ticket)?;
-        self.list = list;
+        renew(&mut self.list, list);
         self.begun = true;
         Ok(())
     }
@@ -426,40 +433,40 @@ impl Board {
             return Err(Trouble::Unread("not a delete"));
         }
         let list = self.list.delete_settled(alloc, ticket)?;
-        self.list = list;
+        renew(&mut self.list, list);
         self.begun = true;
         Ok(())
     }
 
     /// A ticket ends.
     pub(crate) fn ended(&mut self, alloc: Global, ticket: u64) -> Done {
-        let Some(_kept) = self.list.seat(ticket) else {
+        let Some(_) = self.list.seat(ticket) else {
             return Err(Trouble::Unread("no ticket that is out"));
         };
         let list = self.list.ended(alloc, ticket)?;
-        self.list = list;
+        renew(&mut self.list, list);
         self.begun = true;
         Ok(())
     }
 
     /// An op that failed or was aborted leaves, or a cleanup that is over.
     pub(crate) fn dropped(&mut self, alloc: Global, ticket: u64) -> Done {
-        let Some(_kept) = self.list.seat(ticket) else {
+        let Some(_) = self.list.seat(ticket) else {
             return Err(Trouble::Unread("no ticket that is out"));
         };
         let list = self.list.dropped(alloc, ticket)?;
-        self.list = list;
+        renew(&mut self.list, list);
         self.begun = true;
         Ok(())
     }
 
     /// A shard of a restore is restored, or fails.
     pub(crate) fn shard_read(&mut self, alloc: Global, ticket: u64) -> Done {
-        let Some(_kept) = self.list.reader(ticket) else {
+        let Some(_) = self.list.reader(ticket) else {
             return Err(Trouble::Unread("no ticket that is out"));
         };
         let list = self.list.shard_read(alloc, ticket)?;
-        self.list = list;
+        renew(&mut self.list, list);
         self.begun = true;
         Ok(())
     }

@@ -28,9 +28,15 @@ use crate::words::id_of;
 use esr_depot::Depot;
 use esr_memdepot::MemDepot;
 use esr_opening::open_container;
-use esr_scenes::{Words, say};
+use esr_scenes::{Words, is_among, say};
 use esr_seq::Seq;
 use std::alloc::Global;
+
+/// The words that ask for an op, and those that a ticket reports by.
+const COMMANDS: &str = "snapshot clone delete restore cleanup";
+
+const REPORTS: &str =
+    "done raised failed delete-failed settled delete-settled ended dropped shard-read";
 
 /// What a case has come to.
 #[derive(Drop)]
@@ -79,7 +85,6 @@ fn say_list_answer(alloc: Global, board: &mut Board, line: &str, said: &mut Stri
     let mut words = Words::new(line);
     let what = words.word();
     match what {
-        "snapshot" | "clone" | "delete" | "restore" | "cleanup" => asked(alloc, board, line, said),
         "would" => would(alloc, board, words.rest(), said),
         "many" => many(alloc, board, &mut words, said),
         "take" => take(alloc, board, said),
@@ -88,15 +93,8 @@ fn say_list_answer(alloc: Global, board: &mut Board, line: &str, said: &mut Stri
             board.skip_to(words.end(next)?)
         }
         "elect" => board.elect(),
-        "done"
-        | "raised"
-        | "failed"
-        | "delete-failed"
-        | "settled"
-        | "delete-settled"
-        | "ended"
-        | "dropped"
-        | "shard-read" => tell_ticket(alloc, board, what, &mut words),
+        _ if is_among(COMMANDS, what) => asked(alloc, board, line, said),
+        _ if is_among(REPORTS, what) => tell_ticket(alloc, board, what, &mut words),
         _ => Ok(board.say(alloc, what, said)?),
     }
 }

@@ -1,8 +1,23 @@
 -- What a crash leaves in each call of a put.
-use Rattle.std.proofs.Common.{◌≡◌, inl, inr, List, ℕ, Option, Some, None, ◌∙◌, ap, subst}
+use Rattle.std.proofs.Common.{◌≡◌, inl, inr, List, [], ◌++◌, ℕ, false, Option, Some, None, option_map, Result, Ok, Err, is_err, OnOk, ◌∙◌, ap, subst}
+use Rattle.std.specs.Io.KnownBytes.{append_known}
+use Rattle.esr_depot.specs.declared.depot.Commit.{Commit}
+use Rattle.esr_depot.specs.declared.depot.Commit.TheVariants.{Done, Exists}
 use Rattle.esr_depot.specs.Image.{Image, blob, with_blob, with_text, put_known, swap_known}
-use Rattle.esr_depot.specs.Changes.{CommitMay, SwapMay}
+use Rattle.esr_depot.specs.Changes.{Committed, CommitMay, SwapMay}
 use Rattle.esr_test_outside.specs.Put.{IsPutOf}
+
+-- what holds of a call that answers no error
+pub on_ok : {T E : Type 0} (r : Result T E) (P : Type 0) → is_err r ≡ false → OnOk r P → P
+on_ok (Ok x) P ok p = p
+on_ok (Err e) P ok p = absurd cc
+
+-- a new stage, to which two pieces are written
+pub written_twice : (old : Option Image) (i : Image) (first second : List ℕ) (new one two : Option (List ℕ)) → old ≡ Some i → new ≡ option_map (λ _. []) old
+    → one ≡ append_known new first → two ≡ append_known one second → two ≡ Some (first ++ second)
+written_twice None i first second new one two is begun once twice = absurd cc
+written_twice (Some x) i first second new one two is begun once twice =
+    twice ∙ ap (λ (o : Option (List ℕ)). append_known o second) (once ∙ ap (λ (o : Option (List ℕ)). append_known o first) begun)
 
 module _ (i : Image) (name bytes text : List ℕ) where
   pub still : (old : Option Image) (x : Image) → old ≡ Some i → Some x ≡ old → IsPutOf i name bytes text x
@@ -16,6 +31,14 @@ module _ (i : Image) (name bytes text : List ℕ) where
       let e : Some x ≡ Some (with_blob i name bytes) = m.0 ∙ here in
       let free : blob i name ≡ None = subst (λ (n : List ℕ). blob i n ≡ None) named (m.1 i is) in
       inr (inl (cc, free))
+
+  pub committed : (answer : Commit) (stage : List ℕ) (contents : Option (List ℕ)) (old new : Option Image) → answer ≡ Done → old ≡ Some i → stage ≡ name
+      → contents ≡ Some bytes → Committed stage contents answer old new → (new ≡ Some (with_blob i name bytes)) × (blob i name ≡ None)
+  committed Done stage contents old new done is named holds h =
+      let here : put_known old stage contents ≡ Some (with_blob i name bytes) = λ k. put_known (is k) (named k) (holds k) in
+      let free : blob i name ≡ None = subst (λ (n : List ℕ). blob i n ≡ None) named (h.1 i is) in
+      (h.0 ∙ here, free)
+  committed Exists stage contents old new done is named holds h = absurd cc
 
   pub in_swap : (old : Option Image) (x : Image) → blob i name ≡ None → old ≡ Some (with_blob i name bytes) → SwapMay text old (Some x) → IsPutOf i name bytes text x
   in_swap old x free is (inl m) = let e : Some x ≡ Some (with_blob i name bytes) = m ∙ is in inr (inl (cc, free))

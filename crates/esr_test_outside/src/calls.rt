@@ -4,12 +4,41 @@ ghost use Rattle.std.specs.Prelude.{◌≤◌, ◌+◌, length};
 use crate::client::{PutError, put_and_record};
 use crate::plan::number_of;
 use esr_depot::{CallError, Commit, Counted, Depot, Fetch, Listed, PAGE, Stage};
-use esr_scenes::{cut, say, say_bytes, say_faults, say_length, say_number, say_success, unquoted};
-use esr_seq::{Seq, Text};
+use esr_scenes::{
+    cut, one, say, say_bytes, say_faults, say_length, say_number, say_success, unquoted,
+};
+use esr_seq::{Bytes, Seq, Text};
 use std::alloc::Global;
 
 /// What a call says in a word, after what it has added to a line.
 type Said = Result<&'static str, CallError>;
+
+/// What a test makes of a container, of which it knows no more than that the calls can be made.
+pub(crate) trait Calls: Counted + Drop {
+    fn commit_text(&mut self, alloc: Global, name: &str, text: &str) -> Said;
+
+    fn replace_text(&mut self, alloc: Global, name: &str, text: &str) -> Said;
+
+    /// Commits a blob in up to three pieces, with bars between them.
+    fn commit_pieces(&mut self, alloc: Global, name: &str, text: &str, line: &mut String) -> Said;
+
+    fn commit_empty(&mut self, alloc: Global, name: &str) -> Result<(), CallError>;
+
+    /// Commits a blob of two pieces and then puts the record, by the client of any container.
+    fn put(&mut self, alloc: Global, name: &str, texts: &str) -> Said;
+
+    /// Takes away one blob, or two.
+    fn take_away(&mut self, alloc: Global, first: &str, second: &str) -> Said;
+
+    fn put_text(&mut self, alloc: Global, text: &str) -> Said;
+
+    fn say_blob(&mut self, alloc: Global, name: &str, line: &mut String) -> Said;
+
+    /// The names after that one, or from the first on where there is none.
+    fn page(&mut self, alloc: Global, after: &str) -> Result<Seq<Listed>, CallError>;
+
+    fn text(&mut self, alloc: Global) -> Result<Option<Bytes>, CallError>;
+}
 
 /// Writes a blob in one piece.
 fn staged<D: Depot>(
@@ -28,17 +57,6 @@ fn word_of(commit: Commit) -> &'static str {
         Commit::Done => "Done",
         Commit::Exists => "Exists",
     }
-}
-
-fn commit<D: Depot>(alloc: Global, depot: &mut D, name: &str, text: &str) -> Said {
-    let stage = staged(alloc, depot, name, text)?;
-    Ok(word_of(depot.commit(alloc, stage)?))
-}
-
-fn replace<D: Depot>(alloc: Global, depot: &mut D, name: &str, text: &str) -> Said {
-    let stage = staged(alloc, depot, name, text)?;
-    depot.replace(alloc, stage)?;
-    Ok("ok")
 }
 
 /// Writes a piece if there is one, and says whether that failed.
@@ -76,50 +94,6 @@ fn in_pieces<D: Depot>(
     Ok(stage)
 }
 
-fn commit_pieces<D: Depot>(
-    alloc: Global,
-    depot: &mut D,
-    name: &str,
-    text: &str,
-    line: &mut String,
-) -> Said {
-    let stage = in_pieces(alloc, depot, name, text, line)?;
-    Ok(word_of(depot.commit(alloc, stage)?))
-}
-
-/// Commits a blob of two pieces and then puts the record, by the client of any container.
-fn put<D: Depot>(alloc: Global, depot: &mut D, name: &str, texts: &str) -> Said {
-    let (first, rest) = cut(texts);
-    let (second, text) = cut(rest);
-    let text = unquoted(text);
-    if first.len().checked_add(second.len()).is_none() {
-        return Err(CallError::Failed);
-    }
-    let (first, second, text) = (first.as_bytes(), second.as_bytes(), text.as_bytes());
-    match put_and_record(alloc, depot, name, first, second, text) {
-        Ok(commit) => Ok(word_of(commit)),
-        Err(PutError::Memory) => Err(CallError::Memory),
-        Err(PutError::Depot) => Err(CallError::Failed),
-        Err(PutError::Stage(_)) => Ok("stage failed"),
-    }
-}
-
-/// Takes away one blob, or two.
-fn remove<D: Depot>(alloc: Global, depot: &mut D, first: &str, second: &str) -> Said {
-    let mut names = Seq::new(alloc);
-    names.push(Text::from_str(alloc, first)?)?;
-    if !second.is_empty() {
-        names.push(Text::from_str(alloc, second)?)?;
-    }
-    depot.remove(&names)?;
-    Ok("ok")
-}
-
-fn swap<D: Depot>(alloc: Global, depot: &mut D, text: &str) -> Said {
-    depot.swap_record(alloc, text.as_bytes())?;
-    Ok("ok")
-}
-
 /// Says what reads of two bytes give, of which a failed one is `!`.
 fn say_reads<F: Fetch>(mut fetch: F, line: &mut String) {
     let mut buf = [0u8; 2];
@@ -135,36 +109,91 @@ fn say_reads<F: Fetch>(mut fetch: F, line: &mut String) {
     }
 }
 
-fn fetch<D: Depot>(alloc: Global, depot: &mut D, name: &str, line: &mut String) -> Said {
-    match depot.fetch(alloc, name)? {
-        Some(fetch) => {
-            say_reads(fetch, line);
-            Ok("")
-        }
-        None => Ok("none"),
-    }
-}
-
-/// Commits an empty blob.
-fn commit_empty<D: Depot>(alloc: Global, depot: &mut D, name: &str) -> Result<(), CallError> {
-    let stage = depot.begin(alloc, name, 0)?;
-    depot.commit(alloc, stage)?;
-    Ok(())
-}
-
-/// Commits so many empty blobs of a folder, of the names 1000, 1001 and so on.
-fn fill<D: Depot>(alloc: Global, depot: &mut D, folder: &str, count: &str) -> Said {
-    for number in 0..number_of(count).unwrap_or(0) {
-        let number = number.saturating_add(1000);
-        let name = format!(in alloc; "{folder}/{number}")?;
-        commit_empty(alloc, depot, name.as_str())?;
-    }
-    Ok("ok")
-}
-
 /// The name in a word, if there is one.
 fn name_in(word: &str) -> Option<&str> {
     if word.is_empty() { None } else { Some(word) }
+}
+
+impl<D: Depot> Calls for D {
+    fn commit_text(&mut self, alloc: Global, name: &str, text: &str) -> Said {
+        let stage = staged(alloc, self, name, text)?;
+        Ok(word_of(self.commit(alloc, stage)?))
+    }
+
+    fn replace_text(&mut self, alloc: Global, name: &str, text: &str) -> Said {
+        let stage = staged(alloc, self, name, text)?;
+        self.replace(alloc, stage)?;
+        Ok("ok")
+    }
+
+    fn commit_pieces(&mut self, alloc: Global, name: &str, text: &str, line: &mut String) -> Said {
+        let stage = in_pieces(alloc, self, name, text, line)?;
+        Ok(word_of(self.commit(alloc, stage)?))
+    }
+
+    fn commit_empty(&mut self, alloc: Global, name: &str) -> Result<(), CallError> {
+        let stage = self.begin(alloc, name, 0)?;
+        self.commit(alloc, stage)?;
+        Ok(())
+    }
+
+    fn put(&mut self, alloc: Global, name: &str, texts: &str) -> Said {
+        let (first, rest) = cut(texts);
+        let (second, text) = cut(rest);
+        let text = unquoted(text);
+        if first.len().checked_add(second.len()).is_none() {
+            return Err(CallError::Failed);
+        }
+        let (first, second, text) = (first.as_bytes(), second.as_bytes(), text.as_bytes());
+        match put_and_record(alloc, self, name, first, second, text) {
+            Ok(commit) => Ok(word_of(commit)),
+            Err(PutError::Memory) => Err(CallError::Memory),
+            Err(PutError::Depot) => Err(CallError::Failed),
+            Err(PutError::Stage(_)) => Ok("stage failed"),
+        }
+    }
+
+    fn take_away(&mut self, alloc: Global, first: &str, second: &str) -> Said {
+        let mut names = one(alloc, Text::from_str(alloc, first)?)?;
+        if !second.is_empty() {
+            names.push(Text::from_str(alloc, second)?)?;
+        }
+        self.remove(&names)?;
+        Ok("ok")
+    }
+
+    fn put_text(&mut self, alloc: Global, text: &str) -> Said {
+        self.swap_record(alloc, text.as_bytes())?;
+        Ok("ok")
+    }
+
+    fn say_blob(&mut self, alloc: Global, name: &str, line: &mut String) -> Said {
+        match self.fetch(alloc, name)? {
+            Some(fetch) => {
+                say_reads(fetch, line);
+                Ok("")
+            }
+            None => Ok("none"),
+        }
+    }
+
+    fn page(&mut self, alloc: Global, after: &str) -> Result<Seq<Listed>, CallError> {
+        Ok(self.list(alloc, name_in(after))?.page)
+    }
+
+    fn text(&mut self, alloc: Global) -> Result<Option<Bytes>, CallError> {
+        self.read_record(alloc)
+    }
+}
+
+/// Commits so many empty blobs of a folder, of the names 1000, 1001 and so on.
+fn fill<C: Calls>(alloc: Global, depot: &mut C, folder: &str, count: &str) -> Said {
+    for number in 0..number_of(count).unwrap_or(0) {
+        let number = number.saturating_add(1000);
+        let name = format!(in alloc; "{folder}/{number}")?;
+        depot.commit_empty(alloc, name.as_str())?;
+    }
+    Ok("ok")
 }
 
 /// Says the names of a page, with their lengths.
@@ -174,9 +203,9 @@ fn say_lengths(page: &[Listed], line: &mut String) {
     }
 }
 
-fn list<D: Depot>(alloc: Global, depot: &mut D, after: &str, line: &mut String) -> Said {
-    let listed = depot.list(alloc, name_in(after))?;
-    say_lengths(listed.page.as_slice(), line);
+fn list<C: Calls>(alloc: Global, depot: &mut C, after: &str, line: &mut String) -> Said {
+    let page = depot.page(alloc, after)?;
+    say_lengths(page.as_slice(), line);
     Ok("")
 }
 
@@ -192,13 +221,13 @@ fn say_page(page: &[Listed], line: &mut String) {
 }
 
 /// Lists a page, and answers its last name if it is full.
-fn page<D: Depot>(
+fn say_next_page<C: Calls>(
     alloc: Global,
-    depot: &mut D,
+    depot: &mut C,
     after: &str,
     line: &mut String,
 ) -> Result<Option<Text>, CallError> {
-    let page = depot.list(alloc, name_in(after))?.page;
+    let page = depot.page(alloc, after)?;
     say_page(page.as_slice(), line);
     match page.as_slice().last() {
         Some(last) if page.len() == PAGE => Ok(Some(last.name.try_clone(alloc)?)),
@@ -207,10 +236,10 @@ fn page<D: Depot>(
 }
 
 /// Lists page after page, until one that isn't full.
-fn pages<D: Depot>(alloc: Global, depot: &mut D, after: &str, line: &mut String) -> Said {
+fn pages<C: Calls>(alloc: Global, depot: &mut C, after: &str, line: &mut String) -> Said {
     let mut after = Text::from_str(alloc, after)?;
     for _ in 0..100 {
-        match page(alloc, depot, after.as_str(), line)? {
+        match say_next_page(alloc, depot, after.as_str(), line)? {
             Some(next) => after = next,
             None => return Ok(""),
         }
@@ -220,13 +249,13 @@ fn pages<D: Depot>(alloc: Global, depot: &mut D, after: &str, line: &mut String)
 }
 
 /// Says the text of the record after a word, or the other word where there is none.
-fn record<D: Depot>(
+fn record<C: Calls>(
     alloc: Global,
-    depot: &mut D,
+    depot: &mut C,
     words: (&str, &'static str),
     line: &mut String,
 ) -> Said {
-    let Some(text) = depot.read_record(alloc)? else {
+    let Some(text) = depot.text(alloc)? else {
         return Ok(words.1);
     };
     say(line, words.0);
@@ -235,33 +264,33 @@ fn record<D: Depot>(
 }
 
 /// Says names with their blobs.
-fn say_blobs<D: Depot>(
+fn say_blobs<C: Calls>(
     alloc: Global,
-    depot: &mut D,
+    depot: &mut C,
     page: &[Listed],
     line: &mut String,
 ) -> Result<(), CallError> {
     for listed in page {
         say(line, listed.name.as_str());
         say(line, "=");
-        fetch(alloc, depot, listed.name.as_str(), line)?;
+        depot.say_blob(alloc, listed.name.as_str(), line)?;
         say(line, " ");
     }
     Ok(())
 }
 
 /// Says the names of the first page with their blobs, and the record where there is one.
-fn held<D: Depot>(alloc: Global, depot: &mut D, line: &mut String) -> Said {
-    let page = depot.list(alloc, None)?.page;
+fn held<C: Calls>(alloc: Global, depot: &mut C, line: &mut String) -> Said {
+    let page = depot.page(alloc, "")?;
     say_blobs(alloc, depot, page.as_slice(), line)?;
     record(alloc, depot, ("record=", ""), line)
 }
 
 /// A call that looks at what is there.
-fn look<D: Depot>(alloc: Global, depot: &mut D, call: &str, line: &mut String) -> Said {
+fn look<C: Calls>(alloc: Global, depot: &mut C, call: &str, line: &mut String) -> Said {
     let (verb, rest) = cut(call);
     match verb {
-        "fetch" => fetch(alloc, depot, unquoted(rest), line),
+        "fetch" => depot.say_blob(alloc, unquoted(rest), line),
         "list" => list(alloc, depot, rest, line),
         "pages" => pages(alloc, depot, rest, line),
         "read-record" => record(alloc, depot, ("", "none"), line),
@@ -275,17 +304,18 @@ fn look<D: Depot>(alloc: Global, depot: &mut D, call: &str, line: &mut String) -
 }
 
 /// A call.
-fn answer<D: Depot>(alloc: Global, depot: &mut D, call: &str, line: &mut String) -> Said {
+fn answer<C: Calls>(alloc: Global, depot: &mut C, call: &str, line: &mut String) -> Said {
     let (verb, rest) = cut(call);
     let (name, text) = cut(rest);
+    let text = unquoted(text);
     match verb {
-        "commit" => commit(alloc, depot, name, unquoted(text)),
-        "replace" => replace(alloc, depot, name, unquoted(text)),
-        "commit-pieces" => commit_pieces(alloc, depot, name, text, line),
-        "put" => put(alloc, depot, name, text),
+        "commit" => depot.commit_text(alloc, name, text),
+        "replace" => depot.replace_text(alloc, name, text),
+        "commit-pieces" => depot.commit_pieces(alloc, name, text, line),
+        "put" => depot.put(alloc, name, text),
         "fill" => fill(alloc, depot, name, text),
-        "remove" => remove(alloc, depot, name, unquoted(text)),
-        "swap-record" => swap(alloc, depot, unquoted(rest)),
+        "remove" => depot.take_away(alloc, name, text),
+        "swap-record" => depot.put_text(alloc, unquoted(rest)),
         _ => look(alloc, depot, call, line),
     }
 }
@@ -316,7 +346,6 @@ fn say_answer(answer: Said, line: &mut String) {
 /// | `faults` | | how often the container has failed |
 ///
 /// Each answers `failed` where a call of the container does.
-pub(crate) fn say_call<D: Depot>(alloc: Global, depot: &mut D, call: &str, line: &mut String) {
-    let answer = answer(alloc, depot, call, line);
-    say_answer(answer, line);
+pub(crate) fn say_call<C: Calls>(alloc: Global, depot: &mut C, call: &str, line: &mut String) {
+    say_answer(answer(alloc, depot, call, line), line);
 }

@@ -1,8 +1,8 @@
 //! A container in a folder, as a subject: whom its lock keeps out, and what a failure of the file system leaves.
-use crate::calls::say_call;
+use crate::calls::{Calls, say_call};
 use crate::failing::{Failing, OneCall};
 use crate::outside::say_change;
-use esr_depot::{Counted, Depot};
+use esr_depot::Counted;
 use esr_dirdepot::DirDepot;
 use esr_scenes::{Scene, Subject, Tally, cut, say, say_number};
 use std::alloc::{AllocError, Global};
@@ -33,7 +33,7 @@ struct Folder<'a, D, E> {
 }
 
 /// How many calls of a scene fail, those that stand above `each-failure`.
-fn failures<D: Depot>(alloc: Global, depot: &mut D, lines: &str) -> u64 {
+fn failures<C: Calls>(alloc: Global, depot: &mut C, lines: &str) -> u64 {
     let mut failed = 0u64;
     for line in lines.lines() {
         let (call, _) = line.split_once(" -> ").unwrap_or((line, ""));
@@ -79,14 +79,14 @@ fn say_each_failure(rt: &HostRuntime, path: &str, lines: &str, line: &mut String
 }
 
 /// Makes a call of a container, if there was memory for one.
-fn say_made<D: Depot>(alloc: Global, depot: &mut Option<D>, call: &str, line: &mut String) {
+fn say_made<C: Calls>(alloc: Global, depot: &mut Option<C>, call: &str, line: &mut String) {
     match depot {
         Some(depot) => say_call(alloc, depot, call, line),
         None => say(line, "no memory"),
     }
 }
 
-impl<D: Depot, E: Depot> Subject for Folder<'_, D, E> {
+impl<D: Calls, E: Calls> Subject for Folder<'_, D, E> {
     fn call(&mut self, alloc: Global, call: &str, line: &mut String) {
         let (whose, rest) = cut(call);
         match whose {
@@ -117,7 +117,7 @@ fn depot_at<'a>(rt: &'a HostRuntime, path: &str) -> Option<DirDepot<'a, HostRunt
 }
 
 /// Plays a scene over two containers on the folder of that path, and over one whose device is full.
-fn play_over<D: Depot, E: Depot>(
+fn play_over<D: Calls, E: Calls>(
     rt: &HostRuntime,
     scene: Scene<'_>,
     tally: &mut Tally,
@@ -159,11 +159,6 @@ pub(crate) fn play_in_folder(
     let _ = fs::remove_dir_all(rt, FOLDER);
     let below = below(scene.lines);
     let path = format!(in rt.alloc(); "{FOLDER}{below}")?;
-    play_at(
-        rt,
-        scene,
-        tally,
-        path.as_str(),
-        &Failing::new(rt, OneCall::new(u64::MAX, true)),
-    )
+    let files = Failing::new(rt, OneCall::new(u64::MAX, true));
+    play_at(rt, scene, tally, path.as_str(), &files)
 }

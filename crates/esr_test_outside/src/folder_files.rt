@@ -96,10 +96,8 @@ impl<S: Sources, T: Targets> FolderFiles<'_, S, T> {
     fn open(&mut self, alloc: Global, call: &str) -> io::Result<()> {
         let words = words_of(call);
         let place = place_in(alloc, words.place)?;
-        let shard = self
-            .sources
-            .shard(alloc, place.as_str(), words.index, words.number)?;
-        self.shard = Some(shard);
+        let sources = &self.sources;
+        self.shard = Some(sources.shard(alloc, place.as_str(), words.index, words.number)?);
         Ok(())
     }
 

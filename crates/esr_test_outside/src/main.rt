@@ -38,17 +38,15 @@ struct Subjects<'a> {
 impl Player for Subjects<'_> {
     fn play_over(&self, scene: Scene<'_>, tally: &mut Tally) -> io::Result<()> {
         let rt = self.rt;
-        let alloc = rt.alloc();
+        let (alloc, lines) = (rt.alloc(), scene.lines);
         match scene.over {
-            "memory" => tally.play_once(rt, alloc, scene, Memory::new(alloc, scene.lines)?),
+            "memory" => tally.play_once(rt, alloc, scene, Memory::new(alloc, lines)?),
             "folder" => play_in_folder(rt, scene, tally),
             "mute" => tally.play_once(rt, alloc, scene, Mute::new()),
-            "memory-files" => {
-                tally.play_once(rt, alloc, scene, MemoryFiles::new(alloc, scene.lines)?)
-            }
+            "memory-files" => tally.play_once(rt, alloc, scene, MemoryFiles::new(alloc, lines)?),
             "folder-files" => play_files_in_folder(rt, scene, tally),
             "shaky-files" => play_shaky_files(rt, scene, tally),
-            "streams" => tally.play_once(rt, alloc, scene, Streams::new(rt)),
+            "streams" => tally.play_once(rt, alloc, scene, Streams { rt }),
             _ => tally.refuse(rt, scene, "it is over what there isn't"),
         }
     }

@@ -106,11 +106,8 @@ impl MemoryFiles {
     }
 
     fn open(&mut self, alloc: Global, call: &str, line: &mut String) {
-        let words = words_of(call);
-        match self
-            .sources
-            .shard(alloc, words.place, words.index, words.number)
-        {
+        let (sources, words) = (&self.sources, words_of(call));
+        match sources.shard(alloc, words.place, words.index, words.number) {
             Ok(shard) => self.shard = Some(shard),
             Err(_) => say(line, "no memory"),
         }
@@ -118,11 +115,8 @@ impl MemoryFiles {
 
     /// Makes a file in a new target, and says the files that it has then.
     fn say_target(&self, alloc: Global, verb: &str, call: &str, line: &mut String) {
-        let words = words_of(call);
-        let Ok(mut target) = self
-            .targets
-            .target(alloc, words.place, words.index, words.number)
-        else {
+        let (targets, words) = (&self.targets, words_of(call));
+        let Ok(mut target) = targets.target(alloc, words.place, words.index, words.number) else {
             return say(line, "no memory");
         };
         say_target(alloc, &mut target, verb, words.rest, line);

@@ -80,8 +80,6 @@ pub(crate) fn say_change(
     let Ok(path) = format!(in alloc; "{folder}/{name}") else {
         return say(line, "no memory");
     };
-    match change(rt, verb, path.as_str(), unquoted(text), line) {
-        Ok(word) => say(line, word),
-        Err(_) => say(line, "failed"),
-    }
+    let word = change(rt, verb, path.as_str(), unquoted(text), line).unwrap_or("failed");
+    say(line, word);
 }

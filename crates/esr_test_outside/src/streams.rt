@@ -11,6 +11,8 @@ use esr_source::{
 use std::alloc::{AllocError, Global};
 use std::io::{self, ErrorKind, Read, Write};
 
+type Done = Result<(), AllocError>;
+
 /// A stream that moves as many bytes as it is told, and then fails.
 #[derive(Drop)]
 struct Broken {
@@ -96,23 +98,13 @@ fn say_out<O: Out>(out: &mut O, line: &mut String) {
     say_faults(line, out.fault_count());
 }
 
-fn read_memory(
-    alloc: Global,
-    text: &str,
-    fails: &str,
-    line: &mut String,
-) -> Result<(), AllocError> {
+fn read_memory(alloc: Global, text: &str, fails: &str, line: &mut String) -> Done {
     let bytes = Bytes::from_slice(alloc, text.as_bytes())?;
     say_lines(MemLines::new(bytes, plan_of(alloc, fails)?), line);
     Ok(())
 }
 
-fn write_memory(
-    alloc: Global,
-    room: &str,
-    fails: &str,
-    line: &mut String,
-) -> Result<(), AllocError> {
+fn write_memory(alloc: Global, room: &str, fails: &str, line: &mut String) -> Done {
     let mut out = MemOut::new(alloc, size_of(room), plan_of(alloc, fails)?)?;
     say_out(&mut out, line);
     say(line, " ");
@@ -153,14 +145,10 @@ fn say_error(word: &str, line: &mut String) {
 /// | `error WORD` | | the words of the error |
 #[derive(Drop)]
 pub(crate) struct Streams<'a> {
-    rt: &'a HostRuntime,
+    pub rt: &'a HostRuntime,
 }
 
-impl<'a> Streams<'a> {
-    pub fn new(rt: &'a HostRuntime) -> Streams<'a> {
-        Streams { rt }
-    }
-
+impl Streams<'_> {
     fn say_standard(&self, line: &mut String) {
         let lines = StdLines::new(self.rt.stdin());
         let mut out = StdOut::new(self.rt.stdout());
@@ -182,7 +170,7 @@ impl<'a> Streams<'a> {
         }
     }
 
-    fn say(&self, alloc: Global, call: &str, line: &mut String) -> Result<(), AllocError> {
+    fn say(&self, alloc: Global, call: &str, line: &mut String) -> Done {
         let (verb, rest) = cut(call);
         let (word, fails) = cut(rest);
         match verb {

@@ -1,11 +1,11 @@
 //! What a container holds, and changes of it from outside.
 use crate::errors::{Done, Trouble};
-use crate::ground::{Ground, REPO};
+use crate::ground::{Ground, REPO, path_of};
 use esr_depot::{Depot, Fetch, Stage};
 use esr_dirdepot::DirDepot;
 use esr_scenes::{one, say, say_bytes, say_number};
 use esr_seq::{Bytes, Text};
-use std::alloc::{AllocError, Global};
+use std::alloc::Global;
 use std::fs;
 
 /// Says bytes as a text, or as numbers.
@@ -155,15 +155,10 @@ fn folders_of<'a>(ground: &Ground<'a>) -> Result<&'a HostRuntime, Trouble> {
     }
 }
 
-/// The path of a file of the container's folder.
-fn path_in(alloc: Global, path: &str) -> Result<String, AllocError> {
-    format!(in alloc; "{REPO}/{path}")
-}
-
 /// Says the text of a file of the container's folder.
 pub fn say_file(alloc: Global, ground: &Ground, path: &str, said: &mut String) -> Done {
     let rt = folders_of(ground)?;
-    let path = path_in(alloc, path)?;
+    let path = path_of(alloc, REPO, path)?;
     say(said, fs::read_to_string(rt, path.as_str())?.as_str());
     Ok(())
 }
@@ -172,6 +167,6 @@ pub fn say_file(alloc: Global, ground: &Ground, path: &str, said: &mut String) -
 pub fn write_file(alloc: Global, ground: &Ground, file: &str) -> Done {
     let rt = folders_of(ground)?;
     let (path, text) = file.split_once('=').unwrap_or((file, ""));
-    let path = path_in(alloc, path)?;
+    let path = path_of(alloc, REPO, path)?;
     Ok(fs::write(rt, path.as_str(), text)?)
 }

@@ -105,7 +105,7 @@ pub fn clear(ground: &Ground) {
 }
 
 /// The path of what has that name in a folder.
-fn path_of(alloc: Global, folder: &str, name: &str) -> Result<String, AllocError> {
+pub fn path_of(alloc: Global, folder: &str, name: &str) -> Result<String, AllocError> {
     format!(in alloc; "{folder}/{name}")
 }
 

@@ -14,7 +14,7 @@ mod text;
 
 use crate::errors::Trouble;
 use crate::play::play_file;
-use esr_scenes::exit_of;
+use esr_scenes::{complain, exit_of};
 use std::env;
 use std::process::ExitCode;
 use std::sync::Wait;
@@ -27,9 +27,7 @@ fn tell_file<R: Threads + Wait + Sync>(
     path: &str,
 ) -> Result<u64, Trouble> {
     let played = play_file(rt, threads, path)?;
-    print!(rt; "{}", played.complaints.as_str())?;
-    // the gate shows what a program that failed said here
-    let _ = eprint!(rt; "{}", played.complaints.as_str());
+    complain(rt, played.complaints.as_str())?;
     println!(rt;
         "{path}: {} scenes over memory, {} over folders, {} runs, {} lines held",
         played.in_memory, played.in_folders, played.runs, played.held

@@ -4,7 +4,6 @@ use crate::faults::{Way, way_of};
 use crate::ground::{Place, clear, ground_at};
 use crate::scene::{Scene, begun};
 use crate::text::line_behind;
-use esr_scenes::say;
 use std::fs;
 use std::sync::Wait;
 use std::thread::Threads;
@@ -127,6 +126,19 @@ fn play_whole<R: Threads + Wait + Sync>(
     Ok(())
 }
 
+/// Plays a scene on its ground, which is cleared then.
+fn play_out<R: Threads + Wait + Sync>(
+    played: &mut Played,
+    lines: &Lines,
+    turn: &Turn<R>,
+    scene: &mut Scene,
+) -> Result<Went, Trouble> {
+    let ended = play_whole(turn.threads, scene, lines, turn.row);
+    clear(&scene.ground);
+    ended?;
+    Ok(note(played, lines, turn, scene))
+}
+
 /// Plays a round of a scene.
 fn play_round<R: Threads + Wait + Sync>(
     played: &mut Played,
@@ -136,12 +148,7 @@ fn play_round<R: Threads + Wait + Sync>(
 ) -> Result<Went, Trouble> {
     let ground = ground_at(turn.rt, turn.place)?;
     let mut scene = begun(turn.rt.alloc(), ground, turn.way, nth);
-    let ended = play_whole(turn.threads, &mut scene, lines, turn.row);
-    clear(&scene.ground);
-    match ended {
-        Ok(()) => Ok(note(played, lines, turn, &scene)),
-        Err(trouble) => Err(trouble),
-    }
+    play_out(played, lines, turn, &mut scene)
 }
 
 /// Plays the rounds of a scene in one way, up to the first in which nothing goes wrong.
@@ -191,9 +198,7 @@ fn play_each<R: Threads + Wait + Sync>(
         blocks |= went.blocks;
     }
     if met != blocks {
-        say(&mut played.complaints, "FAILED: ");
-        say(&mut played.complaints, lines.title);
-        say(&mut played.complaints, UNPLAYED);
+        let _ = write!(played.complaints, "FAILED: {}{UNPLAYED}", lines.title);
     }
     Ok(met != blocks)
 }

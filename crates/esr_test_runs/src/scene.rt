@@ -7,10 +7,15 @@ use crate::meeting::Meeting;
 use crate::setting::{Job, Mishaps, calm};
 use crate::shown::Shown;
 use crate::text::{counted_blobs, front_of, line_behind, plain, push_line};
-use esr_scenes::{say, say_number};
+use esr_scenes::{is_among, say, say_number};
 use std::alloc::{AllocError, Global};
 use std::sync::Wait;
 use std::thread::Threads;
+
+/// The marks of lines that write to the script, and of those that are passed over.
+const WRITTEN: &str = "> | * +";
+
+const PASSED: &str = "# only row then";
 
 /// What a scene has come to.
 #[derive(Drop)]
@@ -90,10 +95,6 @@ pub fn begun(alloc: Global, ground: Ground<'_>, way: Way, nth: u64) -> Scene<'_>
         held: 0,
         complaint: String::new(alloc),
     }
-}
-
-fn say_whether(said: &mut String, holds: bool) {
-    say(said, if holds { "true" } else { "false" });
 }
 
 /// Adds to a script a text with its number, and an end.
@@ -232,19 +233,22 @@ impl Scene<'_> {
         Ok(())
     }
 
-    /// Adds to the script: a line, a last text, or one of them so many times.
-    fn write(&mut self, mark: &str, rest: &str) -> Done {
-        let (count, text) = match mark {
-            "*" | "+" => rest.split_once(' ').unwrap_or((rest, "")),
-            _ => ("1", rest),
-        };
-        let end = match mark {
-            ">" | "*" => "\n",
-            _ => "",
-        };
+    /// Adds to the script a text as often as a word says, each with that end.
+    fn write_many(&mut self, count: &str, text: &str, end: &str) -> Done {
         let count = count.parse::<u64>()?;
         let text = plain(self.alloc, text)?;
         Ok(self.write_times(text.as_str(), end, count)?)
+    }
+
+    /// Adds to the script: a line, a last text, or one of them so many times.
+    fn write(&mut self, mark: &str, rest: &str) -> Done {
+        let (count, text) = rest.split_once(' ').unwrap_or((rest, ""));
+        match mark {
+            ">" => self.write_many("1", rest, "\n"),
+            "*" => self.write_many(count, text, "\n"),
+            "+" => self.write_many(count, text, ""),
+            _ => self.write_many("1", rest, ""),
+        }
     }
 
     /// Adds a source.
@@ -376,8 +380,8 @@ impl Scene<'_> {
         match what {
             "faults" => say_number(said, self.faults),
             "misprints" => say(said, self.misprints.as_str().trim_start()),
-            "met" => say_whether(said, self.gate.has_met()),
-            "clean" => say_whether(said, self.is_clean()?),
+            "met" => say(said, if self.gate.has_met() { "true" } else { "false" }),
+            "clean" => say(said, if self.is_clean()? { "true" } else { "false" }),
             "file" => say_file(self.alloc, &self.ground, name, said)?,
             _ => say_answer(self.alloc, &mut self.ground, what, name, said)?,
         }
@@ -415,13 +419,13 @@ impl Scene<'_> {
             "!" => self.set(rest),
             "?" => self.ask(rest),
             "=" => self.add_source(rest),
-            ">" | "|" | "*" | "+" => self.write(mark, rest),
             ".." => self.pass(rest),
             "each" => {
                 self.is_armed = true;
                 Ok(())
             }
-            "#" | "only" | "row" | "then" => Ok(()),
+            _ if is_among(WRITTEN, mark) => self.write(mark, rest),
+            _ if is_among(PASSED, mark) => Ok(()),
             _ => Ok(self.compare(mark, rest, line)?),
         }
     }

@@ -1,12 +1,11 @@
 -- A ticket stays while another unit is taken and worked.
 use Rattle.std.proofs.Common.{◌≡◌, ◌≢◌, ◌⊎◌, ◌≤◌, inl, inr, ⊎_elim, ℕ, true, List, [], ◌∷◌, ◌++◌, append-nil, refl, sym, ap, ◌∙◌, subst, arith}
 use Rattle.esr_model.specs.Lists.{Has-left}
-use Rattle.esr_model.specs.Values.{Has, Formats}
+use Rattle.esr_model.specs.Values.{Has}
 use Rattle.esr_core.specs.World.{World, Ticket}
 use Rattle.esr_core.specs.Entry.{Step, TakeStep, ElectStep, Given, Reply, Gave, ElectedTerm, Moment}
-use Rattle.esr_core.specs.After.{after}
-use Rattle.esr_core.specs.History.{world_from}
 use Rattle.esr_core.specs.Past.{entries_by}
+use Rattle.esr_core.specs.Laws.Histories.{world_parts}
 use Rattle.esr_desk.specs.declared.unit.Unit.{Unit as Taken}
 use Rattle.esr_desk.specs.Start.{Start, Legal, formats_of, world_of, ticket_of}
 use Rattle.esr_desk.specs.Own.{made_of}
@@ -26,7 +25,8 @@ took_stays s old new u same took = subst (λ (t : Ticket). TookWork u.ready.work
 
 module _ (s : Start) (alone : s.alone ≡ true)
     (steps : (s : Start) (log more : List Moment) (who k : ℕ) → Legal s (log ++ more) → AllOf who more → who ≢ 0 → k ≢ who → ticket_of s (log ++ more) k ≡ ticket_of s log k)
-    (gives : (s : Start) (log : List Moment) (m : Moment) (ticket op : ℕ) (unit : Given) (k : ℕ) → Legal s (log ++ m ∷ []) → m.entry.step ≡ TakeStep → m.entry.reply ≡ Gave ticket op unit → k ≢ ticket → ticket_of s (log ++ m ∷ []) k ≡ ticket_of s log k) where
+    (gives : (s : Start) (log : List Moment) (m : Moment) (ticket op : ℕ) (unit : Given) (k : ℕ) → Legal s (log ++ m ∷ [])
+    → m.entry.step ≡ TakeStep → m.entry.reply ≡ Gave ticket op unit → k ≢ ticket → ticket_of s (log ++ m ∷ []) k ≡ ticket_of s log k) where
   by_take : (old took : List Moment) (ticket op : ℕ) (unit : Given) (k : ℕ) → Stepped s old took 0 TakeStep (Gave ticket op unit) → k ≢ ticket → ticket_of s took k ≡ ticket_of s old k
   by_take old took ticket op unit k h other =
       let m : Moment = record { entry = record { who = 0; step = TakeStep; reply = Gave ticket op unit }; image = h.image } in
@@ -48,7 +48,8 @@ module _ (s : Start) (alone : s.alone ≡ true)
 
 -- ... while a term begins
 pub stays_elected : (s : Start) → s.alone ≡ true
-    → ((s : Start) (log : List Moment) (m : Moment) (k : ℕ) → Legal s (log ++ m ∷ []) → m.entry.who ≡ 0 → ((ticket op : ℕ) (unit : Given) → m.entry.reply ≢ Gave ticket op unit) → k ≢ 0 → ticket_of s (log ++ m ∷ []) k ≡ ticket_of s log k)
+    → ((s : Start) (log : List Moment) (m : Moment) (k : ℕ) → Legal s (log ++ m ∷ []) → m.entry.who ≡ 0
+    → ((ticket op : ℕ) (unit : Given) → m.entry.reply ≢ Gave ticket op unit) → k ≢ 0 → ticket_of s (log ++ m ∷ []) k ≡ ticket_of s log k)
     → (old new : List Moment) (term : ℕ) (held : Taken) → Stepped s old new 0 ElectStep (ElectedTerm term) → held.ready.ticket ≢ 0 → Took s old held → Took s new held
 stays_elected s alone nothing old new term held h some was =
     let m : Moment = record { entry = record { who = 0; step = ElectStep; reply = ElectedTerm term }; image = h.image } in
@@ -63,14 +64,10 @@ all_has who [] m all none = absurd none
 all_has who (x ∷ ms) m all (inl same) = ap (λ (y : Moment). y.entry.who) (sym same) ∙ all.0
 all_has who (x ∷ ms) m all (inr later) = all_has who ms m all.1 later
 
-world_both : (f : Formats) (a b : List Moment) (w : World) → world_from f w (a ++ b) ≡ world_from f (world_from f w a) b
-world_both f [] b w = refl
-world_both f (m ∷ a) b w = world_both f a b (after f w m)
-
 -- steps of others leave what it has made
 made_left : (s : Start) (old more new : List Moment) (k : ℕ) → new ≡ old ++ more → HasMadeNone more k → made_of s new k ≡ made_of s old k
 made_left s old more new k is none =
-    ap (λ (log : List Moment). made_of s log k) is ∙ ap (λ (w : World). entries_by w.entries k) (world_both (formats_of s) old more s.world) ∙ others_leave (formats_of s) (world_of s old) more k none
+    ap (λ (log : List Moment). made_of s log k) is ∙ ap (λ (w : World). entries_by w.entries k) (world_parts (formats_of s) old more s.world) ∙ others_leave (formats_of s) (world_of s old) more k none
 
 one_step : (s : Start) → s.alone ≡ true → (old new : List Moment) (step : Step) (reply : Reply) (k : ℕ) → Stepped s old new 0 step reply → k ≢ 0 → made_of s new k ≡ made_of s old k
 one_step s alone old new step reply k h some =
@@ -100,9 +97,6 @@ taken_more log step reply calls now ticket is h = subst (λ (c : List Call). Has
   some = h.some;
   taken = Has-left calls _ _ h.taken;
 })
-
-pub taken_same : (calls now : List Call) (ticket : ℕ) → now ≡ calls → HasTaken calls ticket → HasTaken now ticket
-taken_same calls now ticket is h = subst (λ (c : List Call). HasTaken c ticket) (sym is) h
 
 pub is_some : (n : ℕ) → 1 ≤ n → n ≢ 0
 is_some n le e = let has : 1 ≤ n = le in let none : n ≡ 0 = e in omega (arith, has, none)

@@ -12,16 +12,17 @@ ghost use Rattle.esr_desk.specs.Restore.Targets.{IsFilled, refused_of};
 ghost use Rattle.esr_desk.specs.Shown.{IsShown};
 
 use crate::told::{tell, tell_commit, tell_number, tell_refused};
-use esr_depot::Listing;
+use esr_depot::{Commit, Listing};
 use esr_desk::{
-    Attempt, Basis, Desk, Done, Failure, Named, NewBlob, Planned, Put, RestoreEnd, Unended, Unit,
-    Who,
+    Attempt, Basis, Desk, Failure, Named, NewBlob, Planned, RestoreEnd, Sole, Unended, Unit, Who,
 };
+use esr_handle::{Handle, Share, Since};
 use esr_names::{BlobName, Id};
 use esr_results::ShardResult;
 use esr_root::RootData;
 use esr_seq::Seq;
 use std::alloc::Global;
+use std::sync::Wait;
 
 /// Where the next term begins: just after the next raise or the next plan, or just before the next drop; or, by a desk that has
 /// no turn, just before the next take.
@@ -34,7 +35,19 @@ pub(crate) enum Due {
     Never,
 }
 
-/// The desk of a worker, that of who elects beside it, and what was told of their steps.
+/// Who begins terms.
+pub(crate) trait Elector {
+    /// Begins the next term.
+    fn begin_term(&mut self, alloc: Global) -> Attempt<u64>;
+}
+
+impl<Q: Sole, B: Since, W: Share, R: Wait + Sync> Elector for Handle<'_, Q, B, W, R> {
+    fn begin_term(&mut self, alloc: Global) -> Attempt<u64> {
+        self.elect(alloc)
+    }
+}
+
+/// The desk of a worker, who elects beside it, and what was told of their steps.
 pub(crate) struct Between<Q, E> {
     pub(crate) own: Q,
     pub(crate) elector: E,
@@ -57,7 +70,7 @@ fn is_due(due: &mut Due, at: Due) -> bool {
     is
 }
 
-impl<Q: Desk, E: Desk> Desk for Between<Q, E> {
+impl<Q: Desk, E: Elector> Desk for Between<Q, E> {
     type Stage = Q::Stage;
 
     type Fetch = Q::Fetch;
@@ -78,7 +91,7 @@ impl<Q: Desk, E: Desk> Desk for Between<Q, E> {
 
     fn take(&mut self, alloc: Global) -> Attempt<Option<Unit>> {
         if is_due(&mut self.due, Due::Take) {
-            let term = self.elector.elect(alloc);
+            let term = self.elector.begin_term(alloc);
             tell_number(&mut self.told, "elect", &term);
         }
         let answer = self.own.take(alloc);
@@ -98,7 +111,7 @@ impl<Q: Desk, E: Desk> Desk for Between<Q, E> {
         &mut self,
         alloc: Global,
         failure: Failure<Q::Stage, Q::Fetch, Q::Shard, Q::Target>,
-    ) -> Done
+    ) -> Attempt
         requires mine { IsMine failure.who.hand (Q.calls self.old.own) failure.who.number }
         requires may { MayFail failure.who.hand Q.start (Q.seen self.old.own) failure.who.number }
         requires shown { IsShown failure.who.hand (evidence Q.Stage.faults Q.Fetch.faults Q.Shard.faults Q.Target.faults Q.Shard.told Q.Target.told)
@@ -121,13 +134,25 @@ impl<Q: Desk, E: Desk> Desk for Between<Q, E> {
         self.own.begin(alloc, ticket, blob)
     }
 
-    fn commit(&mut self, alloc: Global, ticket: u64, name: BlobName, stage: Self::Stage) -> Put {
+    fn commit(
+        &mut self,
+        alloc: Global,
+        ticket: u64,
+        name: BlobName,
+        stage: Self::Stage,
+    ) -> Attempt<Commit> {
         let answer = self.own.commit(alloc, ticket, name, stage);
         tell_commit(&mut self.told, &answer);
         answer
     }
 
-    fn latest(&mut self, alloc: Global, ticket: u64, name: BlobName, stage: Self::Stage) -> Done {
+    fn latest(
+        &mut self,
+        alloc: Global,
+        ticket: u64,
+        name: BlobName,
+        stage: Self::Stage,
+    ) -> Attempt {
         let answer = self.own.latest(alloc, ticket, name, stage);
         tell(&mut self.told, "latest", &answer);
         answer
@@ -137,13 +162,13 @@ impl<Q: Desk, E: Desk> Desk for Between<Q, E> {
         let answer = self.own.raise(alloc, ticket);
         tell_number(&mut self.told, "raise", &answer);
         if is_due(&mut self.due, Due::Raise) {
-            let term = self.elector.elect(alloc);
+            let term = self.elector.begin_term(alloc);
             tell_number(&mut self.told, "elect", &term);
         }
         answer
     }
 
-    fn settle(&mut self, alloc: Global, ticket: u64, root: &RootData) -> Done {
+    fn settle(&mut self, alloc: Global, ticket: u64, root: &RootData) -> Attempt {
         let answer = self.own.settle(alloc, ticket, root);
         tell(&mut self.told, "settle", &answer);
         answer
@@ -153,7 +178,7 @@ impl<Q: Desk, E: Desk> Desk for Between<Q, E> {
         let answer = self.own.plan(alloc, ticket, basis);
         tell(&mut self.told, "plan", &answer);
         if is_due(&mut self.due, Due::Plan) {
-            let term = self.elector.elect(alloc);
+            let term = self.elector.begin_term(alloc);
             tell_number(&mut self.told, "elect", &term);
         }
         answer
@@ -165,19 +190,19 @@ impl<Q: Desk, E: Desk> Desk for Between<Q, E> {
         answer
     }
 
-    fn settle_delete(&mut self, alloc: Global, ticket: u64, root: &RootData) -> Done {
+    fn settle_delete(&mut self, alloc: Global, ticket: u64, root: &RootData) -> Attempt {
         let answer = self.own.settle_delete(alloc, ticket, root);
         tell(&mut self.told, "settle", &answer);
         answer
     }
 
-    fn remove(&mut self, alloc: Global, ticket: u64, names: &Seq<BlobName>) -> Done {
+    fn remove(&mut self, alloc: Global, ticket: u64, names: &Seq<BlobName>) -> Attempt {
         let answer = self.own.remove(alloc, ticket, names);
         tell(&mut self.told, "remove", &answer);
         answer
     }
 
-    fn end_shard(&mut self, alloc: Global, ticket: u64, outcome: &ShardResult) -> Done {
+    fn end_shard(&mut self, alloc: Global, ticket: u64, outcome: &ShardResult) -> Attempt {
         self.own.end_shard(alloc, ticket, outcome)
     }
 
@@ -200,21 +225,21 @@ impl<Q: Desk, E: Desk> Desk for Between<Q, E> {
         self.own.end_restore(alloc, done)
     }
 
-    fn end_delete(&mut self, alloc: Global, ticket: u64) -> Done {
+    fn end_delete(&mut self, alloc: Global, ticket: u64) -> Attempt {
         let answer = self.own.end_delete(alloc, ticket);
         tell(&mut self.told, "end", &answer);
         answer
     }
 
-    fn end_cleanup(&mut self, alloc: Global, ticket: u64) -> Done {
+    fn end_cleanup(&mut self, alloc: Global, ticket: u64) -> Attempt {
         let answer = self.own.end_cleanup(alloc, ticket);
         tell(&mut self.told, "end", &answer);
         answer
     }
 
-    fn end_drop(&mut self, alloc: Global, ticket: u64) -> Done {
+    fn end_drop(&mut self, alloc: Global, ticket: u64) -> Attempt {
         if is_due(&mut self.due, Due::Drop) {
-            let term = self.elector.elect(alloc);
+            let term = self.elector.begin_term(alloc);
             tell_number(&mut self.told, "elect", &term);
         }
         let answer = self.own.end_drop(alloc, ticket);
@@ -222,7 +247,7 @@ impl<Q: Desk, E: Desk> Desk for Between<Q, E> {
         answer
     }
 
-    fn finish(&mut self, alloc: Global, ticket: u64) -> Done {
+    fn finish(&mut self, alloc: Global, ticket: u64) -> Attempt {
         let answer = self.own.finish(alloc, ticket);
         tell(&mut self.told, "finish", &answer);
         answer

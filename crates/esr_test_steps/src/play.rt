@@ -3,7 +3,7 @@ use crate::errors::{Done, Trouble};
 use crate::setting::{say_blob, say_record, sources_of};
 use crate::steps::made_in;
 use esr_memdepot::MemDepot;
-use esr_scenes::say;
+use esr_scenes::{complain, say};
 use esr_seq::{Seq, Text};
 use esr_source::MemTargets;
 use std::alloc::Global;
@@ -117,10 +117,16 @@ fn count_of(lines: &str, mark: &str) -> u64 {
     count
 }
 
+/// Prints the differences of a scene.
+fn tell_failed(rt: &HostRuntime, title: &str, differences: &str) -> io::Result<()> {
+    let text = format!(in rt.alloc(); "FAILED: {title}\n{differences}")?;
+    complain(rt, text.as_str())
+}
+
 /// Prints that a scene held, or its differences.
 fn tell(rt: &HostRuntime, title: &str, lines: &str, differences: &str) -> io::Result<()> {
     if !differences.is_empty() {
-        return print!(rt; "FAILED: {title}\n{differences}");
+        return tell_failed(rt, title, differences);
     }
     println!(rt;
         "{title}: {} steps, {} answers held",

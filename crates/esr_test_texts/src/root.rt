@@ -105,14 +105,18 @@ fn say_without(alloc: Global, line: &mut String, root: &RootData, uuid: Id) -> S
     say_written(line, root_text(alloc, &root))
 }
 
+fn say_id_or_none(line: &mut String, id: Option<Id>) {
+    match id {
+        Some(id) => say_id(line, id),
+        None => say(line, "none"),
+    }
+}
+
 /// Says the generation of a shard of an index.
 fn say_generation(alloc: Global, line: &mut String, root: &RootData, words: &str) -> Said {
     let (name, shard) = cut(words);
     let name = index_name(alloc, name)?;
-    match root.generation(&name, small(shard)) {
-        Some(id) => say_id(line, id),
-        None => say(line, "none"),
-    }
+    say_id_or_none(line, root.generation(&name, small(shard)));
     Ok(())
 }
 

@@ -2,12 +2,12 @@
 use crate::names::say_id;
 use crate::shard_files::physical_name;
 use crate::words::{Said, UNKNOWN, cut, cut_last, id, number, say, say_bytes, say_written};
-use esr_hash::{print_read, print_text};
+use esr_hash::{Print, print_read, print_text};
 use esr_json::ReadRefusal;
 use esr_names::Id;
 use esr_seq::Seq;
 use esr_shardidx::{
-    FileEntry, ShardIndex, ShardSnap, SnapList, shard_index_read, shard_index_text,
+    FileEntry, PhysicalName, ShardIndex, ShardSnap, SnapList, shard_index_read, shard_index_text,
     shard_snap_read, shard_snap_text,
 };
 use std::alloc::Global;
@@ -68,16 +68,20 @@ fn say_list_of(line: &mut String, index: &ShardIndex, uuid: Id) {
     }
 }
 
+fn say_file_like(line: &mut String, index: &ShardIndex, name: &PhysicalName, print: Option<Print>) {
+    match print {
+        Some(print) => say_found(line, index.same_file(name, &print)),
+        None => say(line, UNKNOWN),
+    }
+}
+
 /// Says the file of this physical name, length and digits.
 fn say_same_file(alloc: Global, line: &mut String, index: &ShardIndex, words: &str) -> Said {
     let (name, rest) = cut(words);
     let (len, digits) = cut(rest);
     let print = print_read(number(len), digits.as_bytes());
     let name = physical_name(alloc, name)?;
-    match print {
-        Some(print) => say_found(line, index.same_file(&name, &print)),
-        None => say(line, UNKNOWN),
-    }
+    say_file_like(line, index, &name, print);
     Ok(())
 }
 

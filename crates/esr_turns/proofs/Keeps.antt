@@ -38,7 +38,8 @@ module _ {T E : Type 0} (history_of : T → List E) (of gave : E → Option ℕ)
 
   -- what a step has to show, at the words ws
   abbrev Goes : (s : St) (id : ℕ) (me : M) (i : ℕ) (f : ℕ → ℕ) (then : ℕ → M → Type 0) → List ℕ → Type 0
-  Goes s id me i f then ws = (w : V) × (a : Act (Option T)) × Valid s.homes me.1 a × Rule record { words = set ws i (f (get_or ws i 0)); homes = homes_after s.homes me.1 a; views = set s.views id w } × then (get_or ws i 0) (w, carried_after me.1 a)
+  Goes s id me i f then ws =
+      (w : V) × (a : Act (Option T)) × Valid s.homes me.1 a × Rule record { words = set ws i (f (get_or ws i 0)); homes = homes_after s.homes me.1 a; views = set s.views id w } × then (get_or ws i 0) (w, carried_after me.1 a)
 
   goes : (s : St) (r : Rule s) (id : ℕ) (me : M) (i : ℕ) (f : ℕ → ℕ) (then : ℕ → M → Type 0) → Goes s id me i f then (r.ticket ∷ r.serving ∷ length r.history ∷ []) → Goes s id me i f then s.words
   goes s r id me i f then h = subst (Goes s id me i f then) (sym r.words) h
@@ -133,7 +134,12 @@ module _ {T E : Type 0} (history_of : T → List E) (of gave : E → Option ℕ)
   slot_set : (s : St) (r : Rule s) (id : ℕ) (v w : V) → get_elem? s.views id ≡ some v → has_value w.stage ≡ has_value v.stage → w.last ≡ v.last → w.put ≡ v.put
       → AtHome history_of r.history r.serving s.homes (set s.views id w) ⊎ IsOut s.homes (set s.views id w)
   slot_set s r id v w at same same_last same_put = ⊎_elim
-      (λ (h : AtHome history_of r.history r.serving s.homes s.views). inl (h.0, h.1, h.2, views_set (λ _ d. IsPutBack r.serving h.0 d) s.views id w (same ∙ (h.3 id v at).0, λ e. same_put ∙ (h.3 id v at).1 (sym same_last ∙ e)) (λ j d _ there. h.3 j d there)))
+      (λ (h : AtHome history_of r.history r.serving s.homes s.views). inl (
+        h.0,
+        h.1,
+        h.2,
+        views_set (λ _ d. IsPutBack r.serving h.0 d) s.views id w (same ∙ (h.3 id v at).0, λ e. same_put ∙ (h.3 id v at).1 (sym same_last ∙ e)) (λ j d _ there. h.3 j d there),
+      ))
       (λ (h : IsOut s.homes s.views). inr (
         h.0,
         dite (ℕ_discrete h.1.0 id)
@@ -204,7 +210,8 @@ module _ {T E : Type 0} (history_of : T → List E) (of gave : E → Option ℕ)
       let same : h.1.0 ≡ id = sym theirs ∙ ap r.owner turn ∙ mine.2 in
       true≢false (sym h.1.3 ∙ ap has_value (same_stage s.views h.1.0 id h.1.1 me.0 h.1.2 at same ∙ is))
 
-  looks_home : (slots id : ℕ) (me : M) (t : ℕ) → me.0.stage ≡ Waits t → (s : St) (r : Rule s) → get_elem? s.views id ≡ some me.0 → r.serving ≡ t → AtHome history_of r.history r.serving s.homes s.views → LooksAt slots s id me r.ticket r.serving (length r.history)
+  looks_home : (slots id : ℕ) (me : M) (t : ℕ) → me.0.stage ≡ Waits t → (s : St) (r : Rule s) → get_elem? s.views id ≡ some me.0 → r.serving ≡ t → AtHome history_of r.history r.serving s.homes s.views
+      → LooksAt slots s id me r.ticket r.serving (length r.history)
   looks_home slots id me t is s r at turn h =
       let v : V = me.0 in
       let x : T = h.0 in
@@ -245,8 +252,17 @@ module _ {T E : Type 0} (history_of : T → List E) (of gave : E → Option ℕ)
           slot = inr (ap (λ (l : List (maybe.Option (Option T))). set l 0 none) h.1, (id, w, set_at s.views id v w at, refl));
         },
         (
-          (λ u has. let same : t ≡ u = ap ticket_or (sym is ∙ has) in
-              ((λ e. (x, ap (λ (y : ℕ). (after_look v y (history_of x), (0, Some x) ∷ me.1)) same, subst (λ l. StartsWith l v.seen) (sym h.2) was.begins, subst (λ l. Together of gave l v.mine) (sym h.2) was.together, (λ all. (h.2 ∙ sees_all s r id v at all, put_last s r id v at all h)), (let a = was.last in omega arith))), λ not. absurd (not (turn ∙ same)))),
+          (λ u has. let same : t ≡ u = ap ticket_or (sym is ∙ has) in (
+            (λ e. (
+              x,
+              ap (λ (y : ℕ). (after_look v y (history_of x), (0, Some x) ∷ me.1)) same,
+              subst (λ l. StartsWith l v.seen) (sym h.2) was.begins,
+              subst (λ l. Together of gave l v.mine) (sym h.2) was.together,
+              (λ all. (h.2 ∙ sees_all s r id v at all, put_last s r id v at all h)),
+              (let a = was.last in omega arith),
+            )),
+            λ not. absurd (not (turn ∙ same)),
+          )),
           λ idle. absurd (idle_waits_not t me.0.stage is idle),
         ),
       )
@@ -422,8 +438,19 @@ module _ {T E : Type 0} (history_of : T → List E) (of gave : E → Option ℕ)
       let new : V = with_share share v in
       let vs : List V = set s.views id w in
       let was : Fits of gave r.history r.owner r.serving r.ticket id v = r.each id v at in
-      let mine : Fits of gave r.history r.owner r.serving r.ticket id w = record { begins = was.begins; told = was.told; stands = was.stands; room = was.room; below = was.below; rises = was.rises; together = was.together; last = was.last; entitled = λ _. omega arith } in
-      let theirs : (j : ℕ) → Fits of gave r.history r.owner r.serving r.ticket j new = λ j. record { begins = was.begins; told = (r.history, refl); stands = tt; room = omega arith; below = λ k le. refl; rises = tt; together = λ i j t a b. refl; last = omega arith; entitled = λ some_put. absurd (omega arith) } in
+      let mine : Fits of gave r.history r.owner r.serving r.ticket id w = record {
+        begins = was.begins;
+        told = was.told;
+        stands = was.stands;
+        room = was.room;
+        below = was.below;
+        rises = was.rises;
+        together = was.together;
+        last = was.last;
+        entitled = λ _. omega arith;
+      } in
+      let theirs : (j : ℕ) → Fits of gave r.history r.owner r.serving r.ticket j new =
+      λ j. record { begins = was.begins; told = (r.history, refl); stands = tt; room = omega arith; below = λ k le. refl; rises = tt; together = λ i j t a b. refl; last = omega arith; entitled = λ some_put. absurd (omega arith) } in
       let slot : AtHome history_of r.history r.serving s.homes vs ⊎ IsOut s.homes vs = slot_set s r id v w at refl refl refl in
       record {
         history = r.history;
@@ -439,10 +466,16 @@ module _ {T E : Type 0} (history_of : T → List E) (of gave : E → Option ℕ)
         places = λ k. let a = total_snoc (λ (u : V). times k u.mine) vs new in let b = total_same (λ (u : V). times k u.mine) s.views id v w at refl in let c = r.places k in omega arith;
         newest = let l = newest_set s r id v w at refl in (l.0, l.1, at_longer vs (new ∷ []) l.0 l.1 l.2, l.3);
         longest = let l = longest_set s r id v w at refl in (l.0, l.1, at_longer vs (new ∷ []) l.0 l.1 l.2, l.3);
-        each = λ j d there. ⊎_elim (views_set (Fits of gave r.history r.owner r.serving r.ticket) s.views id w mine (λ j d _ there. r.each j d there) j d) (λ (e : new ≡ d). subst (Fits of gave r.history r.owner r.serving r.ticket j) e (theirs j)) (at_snoc vs new d j there);
+        each = λ j d there. ⊎_elim (views_set (Fits of gave r.history r.owner r.serving r.ticket) s.views id w mine (λ j d _ there. r.each j d there) j d)
+            (λ (e : new ≡ d). subst (Fits of gave r.history r.owner r.serving r.ticket j) e (theirs j)) (at_snoc vs new d j there);
         waits = λ t from below. let x = waits_set s r id v w at r.serving (le_refl r.serving) (λ u _ has. has) t from below in (x.0, at_longer vs (new ∷ []) (r.owner t) x.0 x.1, x.2);
         slot = ⊎_elim
-            (λ (h : AtHome history_of r.history r.serving s.homes vs). inl (h.0, h.1, h.2, λ j d there. ⊎_elim (h.3 j d) (λ (e : new ≡ d). subst (λ (y : V). IsPutBack r.serving h.0 y) e (refl, λ z. absurd (omega arith))) (at_snoc vs new d j there)))
+            (λ (h : AtHome history_of r.history r.serving s.homes vs). inl (
+              h.0,
+              h.1,
+              h.2,
+              λ j d there. ⊎_elim (h.3 j d) (λ (e : new ≡ d). subst (λ (y : V). IsPutBack r.serving h.0 y) e (refl, λ z. absurd (omega arith))) (at_snoc vs new d j there),
+            ))
             (λ (h : IsOut s.homes vs). inr (h.0, (h.1.0, h.1.1, at_longer vs (new ∷ []) h.1.0 h.1.1 h.1.2, h.1.3)))
             slot;
       }
@@ -467,7 +500,17 @@ module _ {T E : Type 0} (history_of : T → List E) (of gave : E → Option ℕ)
         last = last;
         entitled = joined_put v w (λ n _. 0 < n → 0 < (v.left + w.left) + (v.used + w.used)) (λ some_put. let a = was.entitled some_put in omega arith) (λ some_put. let a = was'.entitled some_put in omega arith);
       } in
-      let gone : Fits of gave r.history r.owner r.serving r.ticket other (spent {T = T} {E = E}) = record { begins = (r.history, refl); told = (r.history, refl); stands = tt; room = omega arith; below = λ k le. refl; rises = tt; together = λ i j t a b. refl; last = omega arith; entitled = λ some_put. absurd (omega arith) } in
+      let gone : Fits of gave r.history r.owner r.serving r.ticket other (spent {T = T} {E = E}) = record {
+        begins = (r.history, refl);
+        told = (r.history, refl);
+        stands = tt;
+        room = omega arith;
+        below = λ k le. refl;
+        rises = tt;
+        together = λ i j t a b. refl;
+        last = omega arith;
+        entitled = λ some_put. absurd (omega arith);
+      } in
       let there_still : get_elem? (set vs other spent) id ≡ some both = set_else vs other id spent (λ e. apart (sym e)) ∙ set_at s.views id v both at in
       let begins : StartsWith r.history both.seen = longer_starts r.history v.seen w.seen was.begins was'.begins in
       let whole : (d : V) → d.seen ≡ r.history → length d.seen ≤ length both.seen → (by : ℕ) × (d : V) × (get_elem? (set vs other spent) by ≡ some d) × (d.seen ≡ r.history) =
@@ -511,7 +554,13 @@ module _ {T E : Type 0} (history_of : T → List E) (of gave : E → Option ℕ)
             let not_them : r.owner t ≢ other = λ e. idle_has_none t was.0.stage (same_stage s.views (r.owner t) other was.0 w was.1 old e ∙ idle') was.2 in
             (was.0, set_else vs other (r.owner t) spent not_them ∙ (set_else s.views id (r.owner t) both not_me ∙ was.1), was.2);
         slot = ⊎_elim
-            (λ (h : AtHome history_of r.history r.serving s.homes s.views). inl (h.0, h.1, h.2, views_set (λ _ d. IsPutBack r.serving h.0 d) vs other spent (refl, λ z. absurd (omega arith)) (λ j d _ e. views_set (λ _ d. IsPutBack r.serving h.0 d) s.views id both (ap has_value idle, joined_put v w (λ n p. n ≡ r.serving + 1 → p ≡ Some h.0) (h.3 id v at).1 (h.3 other w old).1) (λ i y _ e'. h.3 i y e') j d e)))
+            (λ (h : AtHome history_of r.history r.serving s.homes s.views). inl (
+              h.0,
+              h.1,
+              h.2,
+              views_set (λ _ d. IsPutBack r.serving h.0 d) vs other spent (refl, λ z. absurd (omega arith))
+                  (λ j d _ e. views_set (λ _ d. IsPutBack r.serving h.0 d) s.views id both (ap has_value idle, joined_put v w (λ n p. n ≡ r.serving + 1 → p ≡ Some h.0) (h.3 id v at).1 (h.3 other w old).1) (λ i y _ e'. h.3 i y e') j d e),
+            ))
             (λ (h : IsOut s.homes s.views).
             let not_me : h.1.0 ≢ id = λ e. true≢false (sym h.1.3 ∙ ap has_value (same_stage s.views h.1.0 id h.1.1 v h.1.2 at e ∙ idle)) in
             let not_them : h.1.0 ≢ other = λ e. true≢false (sym h.1.3 ∙ ap has_value (same_stage s.views h.1.0 other h.1.1 w h.1.2 old e ∙ idle')) in
@@ -534,7 +583,8 @@ module _ {T E : Type 0} (history_of : T → List E) (of gave : E → Option ℕ)
     places = λ k. sym (ap {B = ℕ} (λ (b : Bool). cond b 1 0) (le-ltb k 0 (omega arith)));
     newest = (0, newcomer x, refl, refl);
     longest = (0, newcomer x, refl, refl);
-    each = one (λ by v. Fits of gave [] (λ _. 0) 0 0 by v) record { begins = ([], refl); told = ([], refl); stands = tt; room = omega arith; below = λ k le. refl; rises = tt; together = λ i j t a b. refl; last = le_refl 1; entitled = λ _. omega arith };
+    each = one (λ by v. Fits of gave [] (λ _. 0) 0 0 by v)
+        record { begins = ([], refl); told = ([], refl); stands = tt; room = omega arith; below = λ k le. refl; rises = tt; together = λ i j t a b. refl; last = le_refl 1; entitled = λ _. omega arith };
     waits = λ t from below. absurd (omega arith);
     slot = inl (x, refl, empty, one (λ _ v. IsPutBack 0 x v) (refl, λ _. refl));
   }

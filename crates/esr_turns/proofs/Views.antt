@@ -35,7 +35,8 @@ ticket_or (Lifted t) = t
 ticket_or (Counted t) = t
 
 module _ {T E : Type 0} where
-  pub views_set : (K : ℕ → View T E → Type 0) (vs : List (View T E)) (me : ℕ) (w : View T E) → K me w → ((j : ℕ) (d : View T E) → j ≢ me → get_elem? vs j ≡ some d → K j d) → (j : ℕ) (d : View T E) → get_elem? (set vs me w) j ≡ some d → K j d
+  pub views_set : (K : ℕ → View T E → Type 0) (vs : List (View T E)) (me : ℕ) (w : View T E) → K me w → ((j : ℕ) (d : View T E) → j ≢ me → get_elem? vs j ≡ some d → K j d) → (j : ℕ) (d : View T E)
+      → get_elem? (set vs me w) j ≡ some d → K j d
   views_set K vs me w mine others j d e = ⊎_elim (λ (t : (j ≡ me) × (w ≡ d)). subst (λ (x : ℕ × View T E). K x.0 x.1) (λ i. (sym t.0 i, t.1 i)) mine)
       (λ (t : (j ≢ me) × (get_elem? vs j ≡ some d)). others j d t.0 t.1) (at_set vs me j w d e)
 
@@ -75,7 +76,8 @@ module _ {E : Type 0} where
   holder history owner serving ticket by seen used (Counted t) h has = ap owner (sym h.0) ∙ h.2
 
   -- who has the value has drawn a ticket
-  pub has_used : (history : List E) (owner : ℕ → ℕ) (serving ticket by : ℕ) (seen : List E) (used places : ℕ) (stage : Stage) → Stands history owner serving ticket by seen used stage → places + pending stage ≤ used → has_value stage ≡ true → 0 < used
+  pub has_used : (history : List E) (owner : ℕ → ℕ) (serving ticket by : ℕ) (seen : List E) (used places : ℕ) (stage : Stage) → Stands history owner serving ticket by seen used stage → places + pending stage ≤ used
+      → has_value stage ≡ true → 0 < used
   has_used history owner serving ticket by seen used places Idle h le has = absurd (true≢false (sym has))
   has_used history owner serving ticket by seen used places (Waits t) h le has = absurd (true≢false (sym has))
   has_used history owner serving ticket by seen used places (Lifted t) h le has = omega arith

@@ -1,6 +1,5 @@
 -- What a step leaves of others' and of its maker's.
-use Rattle.std.proofs.Common.{◌≡◌, ◌⊎◌, inl, inr, ⊎_elim, ℕ, ◌≤◌, true, List, ◌++◌, append-nil, Option, Some, None, Result, Ok, Err, IfErr, OnErr, refl, sym, ap, ◌∙◌, subst}
-use Rattle.std.specs.Result.{IsErrAnd}
+use Rattle.std.proofs.Common.{◌≡◌, ◌⊎◌, inl, inr, ⊎_elim, ℕ, ◌≤◌, true, List, ◌++◌, append-nil, Option, Some, None, Result, Ok, Err, refl, sym, ap, ◌∙◌, subst}
 use Rattle.esr_model.specs.Names.{BlobName}
 use Rattle.esr_model.specs.Values.{Has}
 use Rattle.esr_core.specs.Entry.{Step, Reply, Refusal, Refused, Entry, Moment}
@@ -15,16 +14,6 @@ use Rattle.esr_desk.specs.Hands.{MayFetch}
 use Rattle.esr_desk.specs.Outcome.{Waited, Stepped, Refusing, Outcome}
 use Rattle.esr_desk.specs.Made.{waited_made, stepped_made, client_made}
 use Rattle.esr_unit.specs.Fetch.{IsAsked, MadeOne, LeavesCalls}
-
--- ---- errors
-
-pub passed : {T E : Type 0} (result : Result T E) (P : E → Type 0) (e : E) → IsErrAnd result (λ x. x ≡ e) → P e → IfErr result P
-passed (Ok x) P e is holds = tt
-passed (Err y) P e is holds = subst P (sym is) holds
-
-pub on_err : {T E : Type 0} (result : Result T E) (P : Type 0) → P → OnErr result P
-on_err (Ok x) P holds = tt
-on_err (Err e) P holds = holds
 
 -- ---- who makes it
 

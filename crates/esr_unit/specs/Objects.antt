@@ -6,6 +6,7 @@ use Rattle.std.proofs.Common.{inl, inr, refl, arith}
 use Rattle.std.proofs.lemmas.Bool.{cases_Bool}
 use Rattle.esr_model.specs.Values.{Bytes}
 use Rattle.esr_depot.specs.Calls.{HasCause}
+use Rattle.esr_core.specs.Laws.Tests.{clash}
 use Rattle.esr_desk.specs.Start.{Start, told_bytes}
 use Rattle.esr_desk.specs.Evidence.{Faulty}
 
@@ -15,15 +16,12 @@ use Rattle.esr_desk.specs.Evidence.{Faulty}
 pub has_risen : (before now : ℕ) (failed : Bool) → HasCause before now failed → failed ≡ true → 0 < now
 has_risen before now failed cause is = let rose = cause.rose is in omega arith
 
-true_false : (b : Bool) → b ≡ true → b ≡ false → ⊥
-true_false b one other = cc
-
 -- it is none of a quiet container, where it is sure not to fail
 pub is_faulty : (s : Start) (before now : ℕ) (failed : Bool) → HasCause before now failed → (s.quiet ≡ true → failed ≡ false) → failed ≡ true → Faulty s now
 is_faulty s before now failed cause never is = (
   has_risen before now failed cause is,
   elim (cases_Bool s.quiet) [
-    | inl quiet ↦ absurd (true_false failed is (never quiet))
+    | inl quiet ↦ absurd (clash failed is (never quiet))
     | inr other ↦ other
   ],
 )

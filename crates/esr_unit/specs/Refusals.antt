@@ -1,6 +1,7 @@
 -- How the steps of units are refused, and what a refusal shows.
 use Rattle.std.specs.Prelude.{◌≡◌, ℕ, zero, suc, true, false, List, [], ◌∷◌, ◌++◌, Option}
-use Rattle.std.proofs.Common.{refl, sym, ◌∙◌, subst, inl, inr, true≢false}
+use Rattle.std.specs.Result.{IsErrAnd}
+use Rattle.std.proofs.Common.{refl, sym, ◌∙◌, subst, inl, inr, true≢false, Result, Ok, Err, IfErr, OnErr}
 use Rattle.esr_model.specs.Names.{BlobName}
 use Rattle.esr_model.specs.Values.{Has, Formats}
 use Rattle.esr_core.specs.World.{World, Deleting, Swap}
@@ -133,7 +134,7 @@ work_refused law s old new who step refusal is h = so_refused (world_of s h.fron
 
 -- ---- what it shows
 
-has_last : (front : List Moment) (m : Moment) → Has (front ++ m ∷ []) m
+pub has_last : (front : List Moment) (m : Moment) → Has (front ++ m ∷ []) m
 has_last [] m = inl refl
 has_last (x ∷ front) m = inr (has_last front m)
 
@@ -263,3 +264,11 @@ module _ {S F H T : Type 0} (e : Evidence S F H T) (own : Type 0) (s : Start) (o
   reader_refused law steps.Memory out h = tt
   reader_refused law steps.TurnsSpent out h = h.1
   reader_refused law (steps.Refused x) out h = reader_entry x (fetch_refused law s old new who name (refusal_of x) h.0) h.0 h.1 out
+
+pub passed_on : {T E : Type 0} (result : Result T E) (P : E → Type 0) (e : E) → IsErrAnd result (λ x. x ≡ e) → P e → IfErr result P
+passed_on (Ok x) P e is holds = tt
+passed_on (Err y) P e is holds = subst P (sym is) holds
+
+pub on_err : {T E : Type 0} (result : Result T E) (P : Type 0) → P → OnErr result P
+on_err (Ok x) P holds = tt
+on_err (Err e) P holds = holds

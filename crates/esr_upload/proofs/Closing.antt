@@ -15,6 +15,7 @@ use Rattle.esr_source.specs.declared.files.ListedFile.{ListedFile}
 use Rattle.esr_shardidx.specs.declared.entry.FileEntry.{FileEntry as CodeEntry}
 use Rattle.esr_shardidx.specs.Snapshots.{SnapValue, are_snap_files}
 use Rattle.esr_shardidx.specs.Indices.{IndexValue, IsShardIndex, has_uuid, with_snap_of}
+use Rattle.esr_model.specs.Lists.{Has-map}
 use Rattle.esr_formats.specs.Ids.{id_of, number_of}
 use Rattle.esr_formats.specs.Formats.{formats}
 use Rattle.esr_formats.specs.Shards.{entry_of, shard_snap_of, shard_snap_kind, shard_index_of, shard_index_kind}
@@ -38,7 +39,7 @@ use Rattle.esr_upload.proofs.Writing.{writes_on}
 use Rattle.esr_upload.proofs.Modelled.{entries_model, id_model, blobs_model, as_many, sum_model}
 use Rattle.esr_upload.specs.SnapAdds.{with_snap_is}
 use Rattle.esr_upload.proofs.Snapped.{snap_ahead}
-use Rattle.esr_upload.proofs.Faults.{was_ahead, has_file}
+use Rattle.esr_upload.proofs.Faults.{was_ahead}
 
 -- the first entry from an id on
 some_from : (first : ℕ) (es : List CodeEntry) (e : CodeEntry) → Has es e → first ≤ e.name.number → IsSome (find (is_from first) es)
@@ -91,9 +92,13 @@ module _ (s : Start) (at : ShardId) (uuid : Id) (base : IndexValue) (ps : List P
       let v = shard_index_of base in
       let ent : List FileEntry = entries_from f size v first files in
       let all : List (BlobName × Bytes) = all_blobs i k size first ps files in
-      ap (λ (ws : List (BlobName × Bytes)). ws ++ (ShardSnap i k uuid.number, shard_snap_kind.text (record { uuid = uuid.number; files = ent })) ∷ (ShardIndex i k (id_after f v first files), shard_index_kind.text (with_snap v uuid.number ent)) ∷ [])
+      ap (λ (ws : List (BlobName × Bytes)). ws ++ (ShardSnap i k uuid.number, shard_snap_kind.text (record { uuid = uuid.number; files = ent })) ∷ (
+        ShardIndex i k (id_after f v first files),
+        shard_index_kind.text (with_snap v uuid.number ent),
+      ) ∷ [])
       (blobs_model s i k size first v ps files named each)
-      ∙ ap (λ (l : List FileEntry). all ++ (ShardSnap i k uuid.number, shard_snap_kind.text (record { uuid = uuid.number; files = l })) ∷ (ShardIndex i k (id_after f v first files), shard_index_kind.text (with_snap v uuid.number ent)) ∷ []) made
+      ∙ ap
+      (λ (l : List FileEntry). all ++ (ShardSnap i k uuid.number, shard_snap_kind.text (record { uuid = uuid.number; files = l })) ∷ (ShardIndex i k (id_after f v first files), shard_index_kind.text (with_snap v uuid.number ent)) ∷ []) made
       ∙ ap (λ (n : ℕ). all ++ snap_blob at (snap_with es uuid) ∷ (ShardIndex i k n, shard_index_kind.text (with_snap v uuid.number ent)) ∷ []) (id_model s first v ps files named each)
       ∙ ap (λ (w : ShardFiles). all ++ snap_blob at (snap_with es uuid) ∷ (ShardIndex i k (first + new_count ps), shard_index_kind.text w) ∷ []) grown
 
@@ -143,7 +148,8 @@ module _ (s : Start) (told : Option (List (Bytes × Bytes))) (listed : Option (L
   new_name = writes_keep (λ (t : Ticket). t.name) (λ t n w. refl) s written old new new_is
 
   new_based : s.tells ≡ true → Based (formats_of s) new at.index.number at.number new.base (shard_index_of base)
-  new_based tells = subst (λ (b : Option ℕ). Based (formats_of s) new at.index.number at.number b (shard_index_of base)) (sym new_base) (based_on (formats_of s) old new at.index.number at.number old.base (shard_index_of base) new_read (drawn.based tells))
+  new_based tells =
+      subst (λ (b : Option ℕ). Based (formats_of s) new at.index.number at.number b (shard_index_of base)) (sym new_base) (based_on (formats_of s) old new at.index.number at.number old.base (shard_index_of base) new_read (drawn.based tells))
 
   told_files : s.known new.place new.name at.number ≡ true → s.told new.place new.name at.number ≡ Some stored.files
   told_files known =
@@ -236,7 +242,8 @@ module _ (s : Start) (told : Option (List (Bytes × Bytes))) (listed : Option (L
       → CanEnd s (after_writes s (last_blobs at (id_of n) (snap_with es uuid) (with_snap_of base (snap_with es uuid))) up) (result_of (record { shard = at; generation = id_of n; files = length ps; bytes = bytes }))
   ready n bytes count sum snap index =
       subst (λ (b : ℕ). CanEnd s (after_writes s (last_blobs at (id_of n) (snap_with es uuid) (with_snap_of base (snap_with es uuid))) up) (result_of (record { shard = at; generation = id_of n; files = length ps; bytes = b }))) (sym sum)
-      (subst (λ (g : ℕ). CanEnd s (after_writes s (last_blobs at (id_of g) (snap_with es uuid) (with_snap_of base (snap_with es uuid))) up) (result_of (record { shard = at; generation = id_of g; files = length ps; bytes = sum_planned ps }))) (sym count)
+      (subst (λ (g : ℕ). CanEnd s (after_writes s (last_blobs at (id_of g) (snap_with es uuid) (with_snap_of base (snap_with es uuid))) up) (result_of (record { shard = at; generation = id_of g; files = length ps; bytes = sum_planned ps })))
+      (sym count)
       (can_end snap index))
 
   up_first : up.first ≡ first
@@ -252,7 +259,8 @@ module _ (s : Start) (told : Option (List (Bytes × Bytes))) (listed : Option (L
   up_read = writes_keep (λ (t : Ticket). t.read) (λ t n w. refl) s (all_blobs at.index.number at.number size first ps stored.files) old up stored.is
 
   up_based : s.tells ≡ true → Based (formats_of s) up at.index.number at.number up.base (shard_index_of base)
-  up_based tells = subst (λ (b : Option ℕ). Based (formats_of s) up at.index.number at.number b (shard_index_of base)) (sym up_base) (based_on (formats_of s) old up at.index.number at.number old.base (shard_index_of base) up_read (drawn.based tells))
+  up_based tells =
+      subst (λ (b : Option ℕ). Based (formats_of s) up at.index.number at.number b (shard_index_of base)) (sym up_base) (based_on (formats_of s) old up at.index.number at.number old.base (shard_index_of base) up_read (drawn.based tells))
 
   pub drew_last : (n : ℕ) → n ≡ first + new_count ps → Drew up n
   drew_last n count = let a = up_first in let b = up_drawn in record { from = omega (arith, a, count); below = omega (arith, a, b, count) }
@@ -270,7 +278,7 @@ module _ (s : Start) (told : Option (List (Bytes × Bytes))) (listed : Option (L
     drawn_id e has over =
         let a = up_first in
         let b = up_drawn in
-        subst (λ (t : Ticket). HasDrawnId t (shard_index_of base) e.name.number) is (entry_of e, has_file base.files e has, refl, omega (arith, b), omega (arith, a, over))
+        subst (λ (t : Ticket). HasDrawnId t (shard_index_of base) e.name.number) is (entry_of e, Has-map entry_of base.files e has, refl, omega (arith, b), omega (arith, a, over))
 
     one_ahead : (g : Id) → old.base ≡ Some g.number → HadFetch hands.Unit log who (ShardIndex at.index.number at.number g.number) WasFetched → (e : CodeEntry) → find (is_from first) base.files ≡ Some e
         → WasAhead s log who (ShardIndex at.index.number at.number g.number) e.name.number

@@ -20,7 +20,8 @@ no_files o false exact none = refl
 pub last_of : (s : Start) (old new : List Moment) (who : ℕ) (step : Step) (reply : Reply) → Stepped s old new who step reply → IsLast new who step reply
 last_of s old new who step reply h = record { front = h.front; image = h.image; is = h.is }
 
-pub has_done : (s : Start) (old mid new : List Moment) (who : ℕ) (r : ShardResult) → Went s old mid who → Stepped s mid new who (DoneStep r) HasEnded → ticket_of s new who ≡ record (ticket_of s mid who) { out = false } → HasDone s old new who
+pub has_done : (s : Start) (old mid new : List Moment) (who : ℕ) (r : ShardResult) → Went s old mid who → Stepped s mid new who (DoneStep r) HasEnded → ticket_of s new who ≡ record (ticket_of s mid who) { out = false }
+    → HasDone s old new who
 has_done s old mid new who r went step own = record {
   r = r;
   last = last_of s mid new who (DoneStep r) HasEnded step;

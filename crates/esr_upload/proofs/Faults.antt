@@ -7,11 +7,10 @@ use Rattle.esr_model.specs.Values.{Bytes, Has, ShardFiles}
 use Rattle.esr_core.specs.World.{Ticket}
 use Rattle.esr_core.specs.Entry.{WasFetched, Moment}
 use Rattle.esr_core.specs.Allowed.{Based}
-use Rattle.esr_shardidx.specs.declared.entry.FileEntry.{FileEntry as CodeEntry}
 use Rattle.esr_shardidx.specs.declared.index.SnapList.{SnapList as CodeList}
 use Rattle.esr_shardidx.specs.Indices.{IndexValue, IsShardIndex, has_uuid}
 use Rattle.esr_formats.specs.Formats.{formats}
-use Rattle.esr_formats.specs.Shards.{entry_of, snap_list_of, shard_index_of, shard_index_kind}
+use Rattle.esr_formats.specs.Shards.{snap_list_of, shard_index_of, shard_index_kind}
 use Rattle.esr_formats.specs.ReadBack.{shard_index_reads_back}
 use Rattle.esr_desk.specs.Start.{Start, formats_of, ticket_of}
 use Rattle.esr_desk.specs.declared.hand.Hand.TheVariants as hands
@@ -35,11 +34,6 @@ has_list u (x ∷ ls) l is = elim (cases_Bool (has_uuid u x)) [
 
 pub list_ahead : (t : Ticket) (u : Id) (base : IndexValue) (l : CodeList) → t.uuid ≡ u.number → find (has_uuid u) base.snapshots ≡ Some l → HasSnapshot t (shard_index_of base) u.number
 list_ahead t u base l own is = let has = has_list u base.snapshots l is in (snap_list_of l, has.0, has.1, sym own)
-
-pub has_file : (es : List CodeEntry) (e : CodeEntry) → Has es e → Has (map entry_of es) (entry_of e)
-has_file [] e has = absurd has
-has_file (x ∷ es) e (inl same) = inl (ap entry_of same)
-has_file (x ∷ es) e (inr has) = inr (has_file es e has)
 
 -- ---- the fault
 

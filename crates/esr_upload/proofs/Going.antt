@@ -1,11 +1,12 @@
 -- Histories, tickets and shards that go on.
-use Rattle.std.proofs.Common.{◌≡◌, ℕ, true, List, [], ◌∷◌, ◌++◌, Option, Some, None, Result, Ok, Err, OnOk, OnErr, IfOk, inl, inr, refl, sym, ap, ◌∙◌, subst}
+use Rattle.std.proofs.Common.{◌≡◌, ℕ, true, List, Option, Some, None, Result, Ok, Err, OnOk, OnErr, IfOk, refl, sym, ap, ◌∙◌, subst}
 use Rattle.esr_names.specs.declared.ids.Id.{Id}
 use Rattle.esr_model.specs.Names.{ShardIndex}
 use Rattle.esr_model.specs.Values.{Has}
 use Rattle.esr_core.specs.Entry.{Step, FetchStep, Reply, WasFetched, Moment}
 use Rattle.esr_source.specs.declared.files.ListedFile.{ListedFile}
 use Rattle.esr_source.specs.Told.{ShardTold}
+use Rattle.esr_model.specs.Lists.{Has-left}
 use Rattle.esr_desk.specs.Start.{Start}
 use Rattle.esr_desk.specs.Evidence.{HadReply}
 use Rattle.esr_desk.specs.Grew.{GrewBy}
@@ -15,15 +16,10 @@ use Rattle.esr_upload.specs.Surveyed.{SameShard}
 
 -- ---- what the history has it keeps
 
-has_front : (old others : List Moment) (m : Moment) → Has old m → Has (old ++ others) m
-has_front [] others m h = absurd h
-has_front (x ∷ old) others m (inl same) = inl same
-has_front (x ∷ old) others m (inr h) = inr (has_front old others m h)
-
 had_later : (s : Start) (old new : List Moment) (who : ℕ) (step : Step) (reply : Reply) → GrewBy s who old new → HadReply old who step reply → HadReply new who step reply
 had_later s old new who step reply grew had =
     let m : Moment = record { entry = record { who = who; step = step; reply = reply }; image = had.image } in
-    record { image = had.image; there = subst (λ (log : List Moment). Has log m) (sym grew.is) (has_front old grew.more m had.there) }
+    record { image = had.image; there = subst (λ (log : List Moment). Has log m) (sym grew.is) (Has-left old grew.more m had.there) }
 
 pub fetched_later : (s : Start) (old new : List Moment) (who index number : ℕ) (base : Option Id) → GrewBy s who old new → HasFetched old who index number base → HasFetched new who index number base
 fetched_later s old new who index number None grew had = tt

@@ -68,7 +68,8 @@ blobs_model s index number size next base (p ∷ ps) (f ∷ fs) named each =
     let r : Option FileEntry = option_map entry_of p.reused in
     let more : new_blobs (formats_of s) size base index number (next_by r next) fs ≡ all_blobs index number size (next + is_new p.reused) ps fs =
     ap (λ (n : ℕ). new_blobs (formats_of s) size base index number n fs) (next_is next p.reused) ∙ blobs_model s index number size (next + is_new p.reused) base ps fs rest each.1 in
-    subst (λ (o : Option FileEntry). blobs_by index number (entry_by (formats_of s) size next f o) f.1 o ++ new_blobs (formats_of s) size base index number (next_by o next) fs ≡ all_blobs index number size next (p ∷ ps) (f ∷ fs)) (sym (reused_is s base p f here each.0))
+    subst (λ (o : Option FileEntry). blobs_by index number (entry_by (formats_of s) size next f o) f.1 o ++ new_blobs (formats_of s) size base index number (next_by o next) fs ≡ all_blobs index number size next (p ∷ ps) (f ∷ fs))
+    (sym (reused_is s base p f here each.0))
     (ap (λ (e : FileEntry). blobs_by index number e f.1 r ++ new_blobs (formats_of s) size base index number (next_by r next) fs) (entry_is s size next p f p.reused here)
     ∙ ap (λ (ws : List (BlobName × Bytes)). blobs_at index number (entry_at size next p p.reused) f.1 p.reused ++ ws) more)
 

@@ -117,7 +117,8 @@ part_can s t at e k is drew few low part fresh = record {
 can_store : (s : Start) (t : Ticket) (at : ShardId) (e : CodeEntry) (k : ℕ) → IsAt t at.index.number at.number → Drew t e.name.number → at.number < 1024 → k < 2 ^ 61 → HasNumber s t at (part_name at e k) → IsFresh t (part_name at e k)
     → CanStore s t (part_name at e k)
 can_store s t at e k is drew few low =
-    elim (nat_le e.print.len e.part_size) as (λ b. HasNumber s t at (if b then code.Whole at e.name else code.Part at e.name k) → IsFresh t (if b then code.Whole at e.name else code.Part at e.name k) → CanStore s t (if b then code.Whole at e.name else code.Part at e.name k)) [
+    elim (nat_le e.print.len e.part_size) as (λ b. HasNumber s t at (if b then code.Whole at e.name else code.Part at e.name k)
+    → IsFresh t (if b then code.Whole at e.name else code.Part at e.name k) → CanStore s t (if b then code.Whole at e.name else code.Part at e.name k)) [
       | true ↦ whole_can s t at e is drew few
       | false ↦ part_can s t at e k is drew few low
     ]
@@ -160,7 +161,8 @@ next_fresh : (s : Start) (old : Ticket) (bytes : Bytes) (at : ShardId) (e : Code
 next_fresh s old bytes at e k below within noted =
     let all : 0 + k ≤ k = omega arith in
     let before : IsBefore at e k (blob_name at e k) =
-    noted_all (IsBefore at e k) s (cut (blob_name at e) e.part_size 0 k bytes) old (cut_all (IsBefore at e k) (blob_name at e) e.part_size 0 k k bytes (λ i less. inr (i, less, refl)) all) (λ name has. inl (below name has)) (blob_name at e k) noted in
+    noted_all (IsBefore at e k) s (cut (blob_name at e) e.part_size 0 k bytes) old
+    (cut_all (IsBefore at e k) (blob_name at e) e.part_size 0 k k bytes (λ i less. inr (i, less, refl)) all) (λ name has. inl (below name has)) (blob_name at e k) noted in
     elim before [
       | inl low ↦ not_below at e k low
       | inr part ↦ parts_differ at e part.0 k part.1 within part.2

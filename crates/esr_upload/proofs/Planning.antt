@@ -51,4 +51,5 @@ blobs_more index number size next (q ∷ ps) p (g ∷ fs) f h =
     let here = blobs_at index number (entry_at size next q q.reused) g.1 q.reused in
     let h' : length ps ≡ length fs = omega (arith, h) in
     let more = rw a at (blobs_more index number size (next + is_new q.reused) ps p fs f h') in
-    ap (λ (l : List (BlobName × Bytes)). here ++ l) more ∙ sym (append_assoc here (all_blobs index number size (next + is_new q.reused) ps fs) (blobs_at index number (entry_at size (next + (is_new q.reused + new_count ps)) p p.reused) f.1 p.reused))
+    ap (λ (l : List (BlobName × Bytes)). here ++ l) more
+    ∙ sym (append_assoc here (all_blobs index number size (next + is_new q.reused) ps fs) (blobs_at index number (entry_at size (next + (is_new q.reused + new_count ps)) p p.reused) f.1 p.reused))

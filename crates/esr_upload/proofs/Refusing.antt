@@ -49,7 +49,8 @@ on_err (Err e) P Q f h = f e h
 
 -- a blob wasn't put
 module _ {S F H T : Type 0} (e : Evidence S F H T) (n : ℕ) (files : Option (List (Bytes × Bytes))) (s : Start) (new : List Moment) (who : ℕ) (index number : ℕ) (work : (ticket_of s new who).work ≡ Shard index number) where
-  refused_shown : (step : Step) (refusal : StepRefusal) → RefusesSo → IsWork step → (IsSwap step → ⊥) → WasRefused s new who step (told_refusal refusal) → Grounds s new who refusal → Shown {S = S} {F = F} {H = H} {T = T} e n files s new who (troubles.Step refusal)
+  refused_shown : (step : Step) (refusal : StepRefusal) → RefusesSo → IsWork step → (IsSwap step → ⊥) → WasRefused s new who step (told_refusal refusal) → Grounds s new who refusal
+      → Shown {S = S} {F = F} {H = H} {T = T} e n files s new who (troubles.Step refusal)
   refused_shown step steps.Memory law is no_swap was grounds = (tt, tt)
   refused_shown step steps.TurnsSpent law is no_swap was grounds = (grounds, tt)
   refused_shown step (steps.Refused x) law is no_swap was grounds = step_shown e n files s was.0 new who index number work step (steps.Refused x) law is no_swap (was.1, grounds)
@@ -83,13 +84,15 @@ module _ {S F H T : Type 0} (e : Evidence S F H T) (n : ℕ) (files : Option (Li
 -- ---- the shard was read
 
 -- a first reading failed
-pub read_shown : {S F H T : Type 0} (e : Evidence S F H T) (n : ℕ) (files : Option (List (Bytes × Bytes))) (s : Start) (log : List Moment) (who : ℕ) (trouble : Trouble S F) → ReadShown n trouble → Shown {S = S} {F = F} {H = H} {T = T} e n files s log who trouble
+pub read_shown : {S F H T : Type 0} (e : Evidence S F H T) (n : ℕ) (files : Option (List (Bytes × Bytes))) (s : Start) (log : List Moment) (who : ℕ) (trouble : Trouble S F) → ReadShown n trouble
+    → Shown {S = S} {F = F} {H = H} {T = T} e n files s log who trouble
 read_shown e n files s log who (troubles.Step steps.Memory) h = (tt, tt)
 read_shown e n files s log who troubles.Own h = (h, tt)
 read_shown e n files s log who trouble h = absurd h
 
 -- a file wasn't started
-pub start_shown : {S F H T : Type 0} (e : Evidence S F H T) (n : ℕ) (files : Option (List (Bytes × Bytes))) (s : Start) (log : List Moment) (who : ℕ) (trouble : Trouble S F) → IsOfStart n trouble → Shown {S = S} {F = F} {H = H} {T = T} e n files s log who trouble
+pub start_shown : {S F H T : Type 0} (e : Evidence S F H T) (n : ℕ) (files : Option (List (Bytes × Bytes))) (s : Start) (log : List Moment) (who : ℕ) (trouble : Trouble S F) → IsOfStart n trouble
+    → Shown {S = S} {F = F} {H = H} {T = T} e n files s log who trouble
 start_shown {S} {F} {H} {T} e n files s log who (troubles.Step refusal) h = subst (λ (r : StepRefusal). Shown {S = S} {F = F} {H = H} {T = T} e n files s log who (troubles.Step r)) (sym h) (memory_shown e n files s log who)
 start_shown e n files s log who troubles.Own h = (h, tt)
 start_shown e n files s log who trouble h = absurd h

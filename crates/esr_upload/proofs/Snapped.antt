@@ -18,6 +18,7 @@ use Rattle.esr_shardidx.specs.Entries.{last_of, is_below, name_stays, IsEntry, i
 use Rattle.esr_shardidx.specs.Snapshots.{has_name, follows, are_snap_files}
 use Rattle.esr_shardidx.specs.Indices.{IndexValue, IsShardIndex, Rises}
 use Rattle.esr_shardidx.specs.FileOrder.{all_map, all_push}
+use Rattle.esr_shardidx.specs.NamesRise.{less_from}
 use Rattle.esr_formats.specs.Shards.{entry_of, code_entry, shard_index_of}
 use Rattle.esr_reuse.specs.declared.reuse.Planned.{Planned}
 use Rattle.esr_reuse.specs.Plans.{file_planned, Reuses}
@@ -25,11 +26,6 @@ use Rattle.esr_upload.specs.Surveyed.{printed, IsShort, names_rise}
 use Rattle.esr_upload.specs.Entries.{is_new, entry_at, entries_at}
 
 -- ---- names
-
-less_from : (o : Ordering) → is_lt o ≡ true → o ≡ Less
-less_from Less h = refl
-less_from Equal h = cc
-less_from Greater h = cc
 
 below_on : (a b c : Bytes) → is_below a b ≡ true → is_below b c ≡ true → is_below a c ≡ true
 below_on a b c first second = ap is_lt (nat_list_cmp_total.trans a b c (less_from (slice_cmp nat_cmp a b) first) (less_from (slice_cmp nat_cmp b c) second))

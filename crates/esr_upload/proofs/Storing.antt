@@ -89,7 +89,7 @@ pub record StoredFirst (s : Start) (told : Option (List (Bytes × Bytes))) (inde
   pub entries : es ≡ entries_at size first (take i ps)
   pub is : new ≡ after_writes s (all_blobs index number size first (take i ps) files) old
 
-tells_none : (told : Option (List (Bytes × Bytes))) → TellsFirst told 0 []
+pub tells_none : (told : Option (List (Bytes × Bytes))) → TellsFirst told 0 []
 tells_none None = tt
 tells_none (Some told) = refl
 

@@ -11,11 +11,7 @@ use Rattle.esr_source.specs.Files.{listed_of, bytes_at, is_above, is_rising, IsL
 use Rattle.esr_reuse.specs.declared.reuse.ReadFile.{ReadFile}
 use Rattle.esr_reuse.specs.Plans.{file_read}
 use Rattle.esr_upload.specs.Surveyed.{Surveyed, printed, TellsAll, IsShort, names_rise}
-
--- what is told begins with these files
-abbrev pub TellsFirst : Option (List (Bytes × Bytes)) → ℕ → List (Bytes × Bytes) → Type 0
-TellsFirst None i files = Unit {0}
-TellsFirst (Some told) i files = files ≡ take i told
+use Rattle.esr_upload.proofs.Storing.{TellsFirst, tells_none}
 
 -- the first i files of the list were read
 pub record ReadFirst (told : Option (List (Bytes × Bytes))) (listed : List ListedFile) (i : ℕ) (reads : List ReadFile) : Type 0 where
@@ -25,12 +21,8 @@ pub record ReadFirst (told : Option (List (Bytes × Bytes))) (listed : List List
   pub tells : TellsFirst told i files
   pub short : AllByRecursion IsShort files
 
-none_told : (told : Option (List (Bytes × Bytes))) → TellsFirst told 0 []
-none_told None = tt
-none_told (Some told) = refl
-
 pub read_none : (told : Option (List (Bytes × Bytes))) (listed : List ListedFile) → ReadFirst told listed 0 []
-read_none told listed = record { files = []; reads_are = refl; names_are = refl; tells = none_told told; short = tt }
+read_none told listed = record { files = []; reads_are = refl; names_are = refl; tells = tells_none told; short = tt }
 
 -- ---- one file more
 
@@ -50,7 +42,8 @@ tells_more None listed i d files bytes is less first tells = tt
 tells_more (Some told) listed i d files bytes is less first tells =
     let less_told : i < length (map listed_of told) = subst (λ (l : List ListedFile). i < length l) is less in
     let name : List ListedFile → Bytes = λ l. (slice_index_or l i d).name in
-    ap (λ (l : List (Bytes × Bytes)). l ++ (name listed, bytes) ∷ []) first ∙ ap (λ (l : List ListedFile). take i told ++ (name l, bytes) ∷ []) is ∙ sym (told_at told i d bytes less_told tells) ∙ ap (λ (n : ℕ). take n told) (sym (add-one i))
+    ap (λ (l : List (Bytes × Bytes)). l ++ (name listed, bytes) ∷ []) first ∙ ap (λ (l : List ListedFile). take i told ++ (name l, bytes) ∷ []) is
+    ∙ sym (told_at told i d bytes less_told tells) ∙ ap (λ (n : ℕ). take n told) (sym (add-one i))
 
 read_more : (told : Option (List (Bytes × Bytes))) (listed : List ListedFile) (i : ℕ) (d : ListedFile) (reads new : List ReadFile) (r : ReadFile) → IfSome told (λ x. listed ≡ map listed_of x) → IsListing listed → i < length listed
     → ReadFirst told listed i reads → new ≡ reads ++ r ∷ [] → r.physical ≡ (slice_index_or listed i d).name → Hashed (bytes_at told i) (slice_index_or listed i d).length r.print → ReadFirst told listed (i + 1) new

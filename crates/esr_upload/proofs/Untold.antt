@@ -1,5 +1,5 @@
 -- A file that changed is of a shard whose files the sources don't tell.
-use Rattle.std.proofs.Common.{◌≡◌, inl, inr, ℕ, true, List, Option, Some, None, sym, ap, ◌∙◌, subst}
+use Rattle.std.proofs.Common.{◌≡◌, inl, inr, ℕ, true, List, Option, None, sym, ap, ◌∙◌, subst}
 use Rattle.std.proofs.lemmas.Bool.{cases_Bool}
 use Rattle.esr_model.specs.Values.{Bytes}
 use Rattle.esr_core.specs.World.{Ticket, Shard}
@@ -7,9 +7,7 @@ use Rattle.esr_desk.specs.Start.{Start}
 use Rattle.esr_desk.specs.Unit.Shown.{IsUntold}
 use Rattle.esr_upload.specs.Stored.{IsToldBy}
 use Rattle.esr_upload.specs.Worked.{Worked}
-
-some_none : (files : List (Bytes × Bytes)) → Some files ≡ None → ⊥
-some_none files e = cc
+use Rattle.esr_upload.specs.Trouble.{some_none}
 
 -- the ticket of a shard whose files aren't told
 pub untold_at : (s : Start) (told : Option (List (Bytes × Bytes))) (old new : Ticket) (index number : ℕ) → Worked old new → old.work ≡ Shard index number → IsToldBy s told number old → told ≡ None → IsUntold s new

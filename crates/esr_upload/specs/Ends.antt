@@ -1,6 +1,5 @@
 -- The last steps of a ticket, and how the trouble of a unit is shown.
 use Rattle.std.proofs.Common.{ℕ, List, Result, Ok, Err, IfErr, ◌≡◌, ◌<◌, inl, inr, Option, sym, ap, subst}
-use Rattle.std.specs.Result.{IsErrAnd}
 use Rattle.esr_desk.specs.declared.hand.Hand.TheVariants as hands
 use Rattle.esr_desk.specs.declared.entry.Why.TheVariants as whys
 use Rattle.esr_desk.specs.declared.refusal.StepRefusal.TheVariants as steps
@@ -45,10 +44,6 @@ done_on s old mid new who went done = record {
   is_worked = worked_on (ticket_of s old who) (ticket_of s mid who) done.worked went.worked done.is_worked;
   is = done.is;
 }
-
-pub passed : {T E : Type 0} (r : Result T E) (P : E → Type 0) (e : E) → IsErrAnd r (λ x. x ≡ e) → P e → IfErr r P
-passed (Ok x) P e is holds = tt
-passed (Err y) P e is holds = subst P (sym is) holds
 
 module _ {S F H T : Type 0} (e : Evidence S F H T) (n : ℕ) (files : Option (List (Bytes × Bytes))) (s : Start) (old new : List Moment) (who : ℕ) (index number : ℕ) (work : (ticket_of s new who).work ≡ Shard index number) where
   -- a step of the unit but its end

@@ -34,7 +34,7 @@ ending_own e own more s log who endings.Own wider h = wider h
 ending_own e own more s log who endings.Stale wider h = h
 ending_own e own more s log who (endings.Stopped refusal) wider h = h
 
-some_none : (files : List (Bytes × Bytes)) → Some files ≡ None → ⊥
+pub some_none : (files : List (Bytes × Bytes)) → Some files ≡ None → ⊥
 some_none files e = cc
 
 no_change : {S F : Type 0} (files : Option (List (Bytes × Bytes))) (trouble : Trouble S F) → IsUntoldChange (Some []) trouble → IsUntoldChange files trouble

@@ -96,4 +96,5 @@ asks_draw X {S} {F} {H} {T} e s old mid new refusal ending result is alone step 
 pub asks_run : (X : Type 0) {S F H T : Type 0} (e : Evidence S F H T) (s : Start) (old mid new : List Moment) (ending : Ending S F H T) (result : UnitRefusal) → s.alone ≡ true → HasBegun old mid
     → GivenUp hands.Verify e s mid new 0 ending result
     → IsReported hands.Verify s mid new 0 ending result → AsksOne {X = X} old new (Err result)
-asks_run X e s old mid new ending result alone begun h report = asks_begun {X = X} old new (Err result) (λ is. given_present e s mid new ending result h (err_is {X = X} result units.Stale is)) (begun_on s old mid new begun (report_further s mid new ending result alone report))
+asks_run X e s old mid new ending result alone begun h report =
+    asks_begun {X = X} old new (Err result) (λ is. given_present e s mid new ending result h (err_is {X = X} result units.Stale is)) (begun_on s old mid new begun (report_further s mid new ending result alone report))

@@ -18,6 +18,7 @@ use Rattle.esr_desk.specs.Own.{caller_of, made_of}
 use Rattle.esr_desk.specs.Made.{client_made}
 use Rattle.esr_desk.specs.Caller.{drawn_by, removed_more}
 use Rattle.esr_desk.specs.Verify.Conditions.{CanDrawTest, IsOwn, HoldsText, CanCommitTest, CanFetchTest}
+use Rattle.esr_unit.specs.Objects.{told_append}
 use Rattle.esr_verify.specs.Idle.{IsIdle}
 use Rattle.esr_verify.specs.Went.{Drew}
 use Rattle.esr_verify.specs.Done.{HasDone, Wrote}
@@ -90,14 +91,6 @@ pub removed_drawn : (old new : Caller) (names : List BlobName) → new ≡ remov
 removed_drawn old new names is = ap (λ (c : Caller). c.drawn) is
 
 -- ---- a test blob is written
-
--- the bytes of a stage that began empty
-told_append : (s : Start) (bytes : Bytes) → append_known (told_bytes s []) bytes ≡ told_bytes s bytes
-told_append s bytes = by_tells s.tells bytes
-  where
-    by_tells : (tells : Bool) (bytes : Bytes) → append_known (if tells then Some [] else None) bytes ≡ (if tells then Some bytes else None)
-    by_tells true bytes = refl
-    by_tells false bytes = refl
 
 pub held_text : (s : Start) (id : ℕ) (empty full : Option Bytes) (bytes : Bytes) → bytes ≡ id_text id → Holds s empty [] → full ≡ append_known empty bytes → Holds s full (id_text id)
 held_text s id empty full bytes text none is = subst (λ (b : Bytes). Holds s full b) text (is ∙ ap (λ (o : Option Bytes). append_known o bytes) none ∙ told_append s bytes)

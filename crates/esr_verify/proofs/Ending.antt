@@ -32,7 +32,8 @@ can_remove s c id names tests h = record { few = few_names id names tests; commi
 one_id : (a b : ℕ) → ◌≡◌ {A = Option ℕ} (Some a) (Some b) → a ≡ b
 one_id a b e = cc
 
-pub can_end : (s : Start) (log : List Moment) (c : Caller) (id : ℕ) (names : List BlobName) → Drew s log id → HasDone s c id names names → caller_of s log ≡ record c { removed = names ++ c.removed } → Has names (TestMaster id) → CanEndVerification (caller_of s log)
+pub can_end : (s : Start) (log : List Moment) (c : Caller) (id : ℕ) (names : List BlobName) → Drew s log id → HasDone s c id names names → caller_of s log ≡ record c { removed = names ++ c.removed } → Has names (TestMaster id)
+    → CanEndVerification (caller_of s log)
 can_end s log c id names drew h is master = record {
   drawn = is_open s log id drew;
   master = λ other drawn.

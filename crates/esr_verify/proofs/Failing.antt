@@ -51,8 +51,8 @@ pub never_stale : {S F H T : Type 0} (e : Evidence S F H T) (s : Start) (log : L
 never_stale {S} {F} {H} {T} e s log ending shown is = subst (λ (x : Ending S F H T). EndingShown hands.Verify e ⊥ s log 0 x) is shown
 
 -- what a trouble shows, its ending does
-pub ending_shown : {S F H T : Type 0} (e : Evidence S F H T) (s : Start) (log : List Moment) (trouble : Trouble S F) (ending : Ending S F H T) → ending ≡ ending_by trouble → Shown {S = S} {F = F} {H = H} {T = T} hands.Verify e ⊥ s log 0 trouble
-    → EndingShown hands.Verify e ⊥ s log 0 ending
+pub ending_shown : {S F H T : Type 0} (e : Evidence S F H T) (s : Start) (log : List Moment) (trouble : Trouble S F) (ending : Ending S F H T) → ending ≡ ending_by trouble
+    → Shown {S = S} {F = F} {H = H} {T = T} hands.Verify e ⊥ s log 0 trouble → EndingShown hands.Verify e ⊥ s log 0 ending
 ending_shown {S} {F} {H} {T} e s log trouble ending is shown = subst (λ (x : Ending S F H T). EndingShown hands.Verify e ⊥ s log 0 x) (sym is) shown
 
 -- ---- how it ends then
@@ -108,17 +108,20 @@ module _ {S F H T : Type 0} (e : Evidence S F H T) (law : RefusesSo) (s : Start)
   }
   draw_entry x is h own = absurd is
 
-  pub draw_shown : (refusal : StepRefusal) → IsRefusedBy s old mid 0 (ReadStep DrawTest) refusal → caller_of s mid ≡ drawn_by (Err refusal) (caller_of s old) → Shown {S = S} {F = F} {H = H} {T = T} hands.Verify e ⊥ s mid 0 (troubles.Step refusal)
+  pub draw_shown : (refusal : StepRefusal) → IsRefusedBy s old mid 0 (ReadStep DrawTest) refusal → caller_of s mid ≡ drawn_by (Err refusal) (caller_of s old)
+      → Shown {S = S} {F = F} {H = H} {T = T} hands.Verify e ⊥ s mid 0 (troubles.Step refusal)
   draw_shown steps.Memory h own = tt
   draw_shown steps.TurnsSpent h own = h.1
   draw_shown (steps.Refused x) h own = draw_entry x (draw_refused law s old mid x h.0 h.1) h.0 own
 
-  may_entry : (x : EntryRefusal) → IsDrawRefusal (refusal_of x) → caller_of s mid ≡ drawn_by (Err (steps.Refused x)) (caller_of s old) → MayEnd {S = S} {F = F} {H = H} {T = T} hands.Verify s mid 0 (ending_by {S = S} {F = F} {H = H} {T = T} (troubles.Step (steps.Refused x)))
+  may_entry : (x : EntryRefusal) → IsDrawRefusal (refusal_of x) → caller_of s mid ≡ drawn_by (Err (steps.Refused x)) (caller_of s old)
+      → MayEnd {S = S} {F = F} {H = H} {T = T} hands.Verify s mid 0 (ending_by {S = S} {F = F} {H = H} {T = T} (troubles.Step (steps.Refused x)))
   may_entry (refusals.Deposed entry) is own = tt
   may_entry (refusals.IdsSpent next) is own = (record { alone = alone; client = refl }, inr (ap (λ (d : Caller). d.spent) own))
   may_entry x is own = absurd is
 
-  draw_may : (refusal : StepRefusal) → IsRefusedBy s old mid 0 (ReadStep DrawTest) refusal → caller_of s mid ≡ drawn_by (Err refusal) (caller_of s old) → MayEnd {S = S} {F = F} {H = H} {T = T} hands.Verify s mid 0 (ending_by {S = S} {F = F} {H = H} {T = T} (troubles.Step refusal))
+  draw_may : (refusal : StepRefusal) → IsRefusedBy s old mid 0 (ReadStep DrawTest) refusal → caller_of s mid ≡ drawn_by (Err refusal) (caller_of s old)
+      → MayEnd {S = S} {F = F} {H = H} {T = T} hands.Verify s mid 0 (ending_by {S = S} {F = F} {H = H} {T = T} (troubles.Step refusal))
   draw_may steps.Memory h own = tt
   draw_may steps.TurnsSpent h own = tt
   draw_may (steps.Refused x) h own = may_entry x (draw_refused law s old mid x h.0 h.1) own
@@ -141,16 +144,16 @@ module _ {S F H T : Type 0} (e : Evidence S F H T) (law : RefusesSo) (deposes : 
   stop_ends refusal units.Stale stops h = absurd h
 
   entry_ends : (x : EntryRefusal) (result : UnitRefusal) → IsDrawRefusal (refusal_of x) → Stepped s old mid 0 (ReadStep DrawTest) (Refused (refusal_of x)) → caller_of s mid ≡ drawn_by (Err (steps.Refused x)) (caller_of s old)
-      → GivenUp hands.Verify e s mid new 0 (ending_by {S = S} {F = F} {H = H} {T = T} (troubles.Step (steps.Refused x))) result → IsReported {S = S} {F = F} {H = H} {T = T} hands.Verify s mid new 0 (ending_by {S = S} {F = F} {H = H} {T = T} (troubles.Step (steps.Refused x))) result
-      → IsVerifyRefused e s old new result
+      → GivenUp hands.Verify e s mid new 0 (ending_by {S = S} {F = F} {H = H} {T = T} (troubles.Step (steps.Refused x))) result
+      → IsReported {S = S} {F = F} {H = H} {T = T} hands.Verify s mid new 0 (ending_by {S = S} {F = F} {H = H} {T = T} (troubles.Step (steps.Refused x))) result → IsVerifyRefused e s old new result
   entry_ends (refusals.Deposed entry) result is h own given report = stop_ends (steps.Refused (refusals.Deposed entry)) result (record { front = h.front; image = h.image; is = h.is }, own) given
   entry_ends (refusals.IdsSpent next) result is h own given report =
       spent_ends (whys.IdsSpent next) shows.Entry result (stepped_alive deposes s old mid DrawTest (Refused (IdsSpent next.number)) (λ place e. cc) h) given report
   entry_ends x result is h own given report = absurd is
 
   draw_ending : (refusal : StepRefusal) (result : UnitRefusal) → IsRefusedBy s old mid 0 (ReadStep DrawTest) refusal → caller_of s mid ≡ drawn_by (Err refusal) (caller_of s old)
-      → GivenUp hands.Verify e s mid new 0 (ending_by {S = S} {F = F} {H = H} {T = T} (troubles.Step refusal)) result → IsReported {S = S} {F = F} {H = H} {T = T} hands.Verify s mid new 0 (ending_by {S = S} {F = F} {H = H} {T = T} (troubles.Step refusal)) result
-      → IsVerifyRefused e s old new result
+      → GivenUp hands.Verify e s mid new 0 (ending_by {S = S} {F = F} {H = H} {T = T} (troubles.Step refusal)) result
+      → IsReported {S = S} {F = F} {H = H} {T = T} hands.Verify s mid new 0 (ending_by {S = S} {F = F} {H = H} {T = T} (troubles.Step refusal)) result → IsVerifyRefused e s old new result
   draw_ending steps.Memory result h own given report = stop_ends steps.Memory result tt given
   draw_ending steps.TurnsSpent result h own given report = stop_ends steps.TurnsSpent result h.1 given
   draw_ending (steps.Refused x) result h own given report = entry_ends x result (draw_refused law s old mid x h.0 h.1) h.0 own given report

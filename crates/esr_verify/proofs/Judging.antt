@@ -76,7 +76,8 @@ module _ (s : Start) (old new : List Moment) (name : BlobName) (own : own_of s n
 -- by the answer
 pub absent_so : {S F H T : Type 0} (e : Evidence S F H T) (s : Start) (old new : List Moment) (id : ℕ) (name : CodeName) (o : Option Bytes) → o ≡ None → s.alone ≡ true → Drew s old id → Has (caller_of s old).committed (name_of name)
     → (caller_of s old).removed ≡ []
-    → Stepped s old new 0 (ReadStep (ReadBlob (name_of name))) (fetch_reply o) → own_of s new 0 ≡ own_fetched hands.Verify (told_bytes s) (name_of name) o (own_of s old 0) → Shown {S = S} {F = F} {H = H} {T = T} hands.Verify e ⊥ s new 0 (troubles.Found (whys.Absent name))
+    → Stepped s old new 0 (ReadStep (ReadBlob (name_of name))) (fetch_reply o) → own_of s new 0 ≡ own_fetched hands.Verify (told_bytes s) (name_of name) o (own_of s old 0)
+    → Shown {S = S} {F = F} {H = H} {T = T} hands.Verify e ⊥ s new 0 (troubles.Found (whys.Absent name))
 absent_so e s old new id name None is alone drew committed unremoved step own = record { client = refl; shown = absent s old new (name_of name) own id alone drew committed unremoved step }
 absent_so e s old new id name (Some bytes) is alone drew committed unremoved step own = absurd cc
 
@@ -144,7 +145,8 @@ module _ (s : Start) (old new : List Moment) (id : ℕ) (name : BlobName) (bytes
     unprinted = inr (ap (λ (p : Print). p.len) same, ap (λ (p : Print). p.sha256) same);
   }
 
-module _ {S F H T : Type 0} (e : Evidence S F H T) (s : Start) (old new : List Moment) (id : ℕ) (name : CodeName) (bytes : Bytes) (drew : Drew s new id) (committed : Has (caller_of s old).committed (name_of name)) (got : Fetched s old new (name_of name) bytes) where
+module _ {S F H T : Type 0} (e : Evidence S F H T) (s : Start) (old new : List Moment) (id : ℕ) (name : CodeName) (bytes : Bytes)
+    (drew : Drew s new id) (committed : Has (caller_of s old).committed (name_of name)) (got : Fetched s old new (name_of name) bytes) where
   judged_why : (why : Why) → HasOtherPrint id name bytes why ⊎ IsNoText id name bytes why → Shown {S = S} {F = F} {H = H} {T = T} hands.Verify e ⊥ s new 0 (troubles.Found why)
   judged_why why (inl h) =
       subst (λ (w : Why). Shown {S = S} {F = F} {H = H} {T = T} hands.Verify e ⊥ s new 0 (troubles.Found w)) (sym h.0)

@@ -1,5 +1,5 @@
 -- Worlds that aren't deposed.
-use Rattle.std.proofs.Common.{◌≡◌, ◌⊎◌, inl, inr, ⊎_elim, ℕ, Bool, true, false, List, [], ◌∷◌, ◌++◌, refl, sym, ap, ◌∙◌, subst}
+use Rattle.std.proofs.Common.{◌≡◌, ◌⊎◌, inl, inr, ⊎_elim, ℕ, true, false, List, [], ◌∷◌, ◌++◌, refl, sym, ap, ◌∙◌, subst}
 use Rattle.std.proofs.lemmas.Bool.{cases_Bool}
 use Rattle.esr_model.specs.Values.{Has, Formats}
 use Rattle.esr_core.specs.World.{World}
@@ -8,19 +8,17 @@ use Rattle.esr_core.specs.After.{after, swaps_record}
 use Rattle.esr_core.specs.Allowed.{Allowed, Blocks, ByFailedSwap, ByDelete, IsBlocked}
 use Rattle.esr_core.specs.History.{world_from, IsLegal}
 use Rattle.esr_core.specs.Refusing.{MayRefuse, ReadFault, SwapFailed}
+use Rattle.esr_core.specs.Laws.Tests.{clash}
 use Rattle.esr_desk.specs.Start.{Start, formats_of, world_of, Legal}
 use Rattle.esr_desk.specs.Outcome.{Stepped}
 use Rattle.esr_desk.specs.Last.{IsLast}
+use Rattle.esr_desk.specs.Made.{world_more}
 use Rattle.esr_unit.specs.Refusals.{RefusesSo}
 use Rattle.esr_verify.specs.Law.{DeposesSo}
 use Rattle.esr_verify.specs.Began.{AllFurther}
 use Rattle.esr_verify.specs.Went.{IsAlive, GrewFurther}
 
 -- ---- histories
-
-world_both : (f : Formats) (w : World) (a b : List Moment) → world_from f w (a ++ b) ≡ world_from f (world_from f w a) b
-world_both f w [] b = refl
-world_both f w (m ∷ a) b = world_both f (after f w m) a b
 
 pub legal_last : (f : Formats) (size : ℕ) (w : World) (front : List Moment) (m : Moment) → IsLegal f size w (front ++ m ∷ []) → Allowed f size (world_from f w front) m
 legal_last f size w [] m legal = legal.0
@@ -50,7 +48,7 @@ alive_after law f w log none alive = elim (cases_Bool (world_from f w log).depos
 pub alive_on : DeposesSo → (s : Start) (old new : List Moment) → GrewFurther s old new → IsAlive s old → IsAlive s new
 alive_on law s old new g alive =
     let f = formats_of s in
-    ap (λ (log : List Moment). (world_of s log).deposed) g.is ∙ ap (λ (w : World). w.deposed) (world_both f s.world old g.more)
+    ap (λ (log : List Moment). (world_of s log).deposed) g.is ∙ ap (λ (w : World). w.deposed) (world_more f s.world old g.more)
     ∙ alive_after law f (world_of s old) g.more (λ fell. none_swaps g.more fell.moment g.all fell.there fell.swap) alive
 
 -- ---- an answer that isn't a refusal of a deposed world is that of one that isn't deposed
@@ -68,7 +66,7 @@ stepped_alive law s old new read reply live h =
     let f = formats_of s in
     let m : Moment = record { entry = record { who = 0; step = ReadStep read; reply = reply }; image = h.image } in
     let allowed : Allowed f s.part_size (world_of s h.front) m = legal_last f s.part_size s.world h.front m (subst (Legal s) h.is h.legal) in
-    ap (λ (log : List Moment). (world_of s log).deposed) h.is ∙ ap (λ (w : World). w.deposed) (world_both f s.world h.front (m ∷ []))
+    ap (λ (log : List Moment). (world_of s log).deposed) h.is ∙ ap (λ (w : World). w.deposed) (world_more f s.world h.front (m ∷ []))
     ∙ alive_after law f (world_of s h.front) (m ∷ []) (one_swap m read refl) (answer_alive (world_of s h.front) m live allowed.answered)
 
 -- ---- the last step of one that isn't deposed wasn't refused as in a deposed one
@@ -81,16 +79,13 @@ no_deposal : (step : Step) (refusal : Refusal) → MayRefuse step refusal → (p
 no_deposal step refusal (ReadFault name) place is = cc
 no_deposal step refusal may place is = cc
 
-both : (b : Bool) → b ≡ true → b ≡ false → ⊥
-both b one other = cc
-
 pub last_alive : RefusesSo → (s : Start) (log : List Moment) (who : ℕ) (step : Step) (place : ℕ) → Legal s log → IsAlive s log → IsLast log who step (Refused (DeposedAt place)) → ⊥
 last_alive law s log who step place legal alive last =
     let f = formats_of s in
     let m : Moment = record { entry = record { who = who; step = step; reply = Refused (DeposedAt place) }; image = last.image } in
     let w = world_of s last.front in
-    let same : (world_of s log).deposed ≡ w.deposed = ap (λ (l : List Moment). (world_of s l).deposed) last.is ∙ ap (λ (x : World). x.deposed) (world_both f s.world last.front (m ∷ [])) in
+    let same : (world_of s log).deposed ≡ w.deposed = ap (λ (l : List Moment). (world_of s l).deposed) last.is ∙ ap (λ (x : World). x.deposed) (world_more f s.world last.front (m ∷ [])) in
     ⊎_elim
-    (λ (blocks : Blocks w who step (DeposedAt place)). both w.deposed (block_dead w who step (DeposedAt place) blocks place refl) (sym same ∙ alive))
+    (λ (blocks : Blocks w who step (DeposedAt place)). clash w.deposed (block_dead w who step (DeposedAt place) blocks place refl) (sym same ∙ alive))
     (λ (may : MayRefuse step (DeposedAt place)). no_deposal step (DeposedAt place) may place refl)
     (law f s.part_size w m (DeposedAt place) (legal_last f s.part_size s.world last.front m (subst (Legal s) last.is legal)) refl)

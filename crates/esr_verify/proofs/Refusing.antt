@@ -1,13 +1,11 @@
 -- Steps of a verification that were refused, and objects that failed.
-use Rattle.std.proofs.Common.{◌≡◌, ◌⊎◌, inl, inr, ⊎_elim, ℕ, ◌≤◌, Bool, true, false, List, [], ◌∷◌, ◌++◌, append_assoc, Result, Ok, Err, IfErr, OnOk, OnErr, refl, sym, ap, ◌∙◌, subst, arith}
-use Rattle.std.specs.Result.{IsErr, IsErrAnd, is_err}
-use Rattle.std.proofs.lemmas.Bool.{cases_Bool}
-use Rattle.esr_depot.specs.Calls.{HasCause}
+use Rattle.std.proofs.Common.{◌≡◌, ◌⊎◌, inl, inr, ⊎_elim, ℕ, ◌≤◌, true, false, List, [], ◌∷◌, ◌++◌, append_assoc, Result, Ok, Err, IfErr, OnErr, refl, sym, ap, ◌∙◌, subst, arith}
 use Rattle.esr_model.specs.Names.{BlobName}
 use Rattle.esr_core.specs.World.{World}
 use Rattle.esr_core.specs.Allowed.{Blocks, ByFailedSwap, ByDelete}
 use Rattle.esr_core.specs.Entry.{Read, ReadBlob, DrawTest, BeginTest, CommitTest, RemoveTests, ReadFails, Step, ReadStep, Reply, DrawnFrom, Refusal, DeposedAt, AbortedBy, IdsSpent, NameTaken, DepotFault, Refused, Moment}
 use Rattle.esr_core.specs.Refusing.{MayRefuse, ReadFault, NoTestId, BeginTestFault, CommitTestFault, TestTaken, RemoveFault}
+use Rattle.esr_core.specs.Laws.Tests.{clash}
 use Rattle.esr_desk.specs.declared.hand.Hand.TheVariants as hands
 use Rattle.esr_desk.specs.declared.refusal.EntryRefusal.{EntryRefusal}
 use Rattle.esr_desk.specs.declared.refusal.EntryRefusal.TheVariants as refusals
@@ -17,7 +15,7 @@ use Rattle.esr_desk.specs.Refusals.{refusal_of, told_refusal}
 use Rattle.esr_desk.specs.Start.{Start, world_of}
 use Rattle.esr_desk.specs.Own.{caller_of}
 use Rattle.esr_desk.specs.Outcome.{Stepped, Outcome, Grounds}
-use Rattle.esr_desk.specs.Evidence.{Evidence, Faulty}
+use Rattle.esr_desk.specs.Evidence.{Evidence}
 use Rattle.esr_desk.specs.Verify.Shown.{HadAfterDraw}
 use Rattle.esr_unit.specs.declared.trouble.Trouble.{Trouble}
 use Rattle.esr_unit.specs.declared.trouble.Trouble.TheVariants as troubles
@@ -29,14 +27,6 @@ use Rattle.esr_verify.specs.Began.{IsFurther, NoneVerified}
 use Rattle.esr_verify.specs.Went.{IsAlive, GrewFurther, Drew, Kept}
 use Rattle.esr_verify.proofs.Listing.{has_last}
 use Rattle.esr_verify.proofs.Going.{front_is, stepped_is, outcome_further, refusing_unverified, drew_on, kept_on, drawn_same}
-
-contra : (b : Bool) → b ≡ true → b ≡ false → ⊥
-contra b x y = cc (x, y)
-
--- an error that was passed on
-pub passed : {T E : Type 0} (r : Result T E) (P : E → Type 0) (e : E) → IsErrAnd r (λ x. x ≡ e) → P e → IfErr r P
-passed (Ok x) P e is holds = tt
-passed (Err y) P e is holds = subst P (sym is) holds
 
 -- ---- a step that was refused
 
@@ -100,7 +90,7 @@ block_so w who step refusal (ByFailedSwap place deposed) = inl (place, refl)
 block_so w who step refusal (ByDelete op deposed aborted) = inr tt
 
 live_block : (w : World) (who : ℕ) (step : Step) (refusal : Refusal) → w.deposed ≡ false → Blocks w who step refusal → IsAbort refusal
-live_block w who step refusal alive (ByFailedSwap place deposed) = absurd (contra w.deposed deposed alive)
+live_block w who step refusal alive (ByFailedSwap place deposed) = absurd (clash w.deposed deposed alive)
 live_block w who step refusal alive (ByDelete op deposed aborted) = tt
 
 -- by the law
@@ -191,28 +181,3 @@ if_kept law s old mid new id read ok (Err e) alone further grew none drew h kept
     let more = outcome_further s mid new read ok (Err e) alone further h in
     kept_on s old mid new id grew none
     (record { grew = more; drew = drew_on law s mid new id more drew (drawn_same (caller_of s mid) (caller_of s new) kept); unverified = refusing_unverified s mid new read (told_refusal e) alone h.0 })
-
-pub any_err : {T E : Type 0} (result : Result T E) (P : Type 0) → P → OnErr result P
-any_err (Ok x) P h = tt
-any_err (Err e) P h = h
-
--- ---- a stage that failed
-
--- it has a count of faults above 0, and is none of a quiet container, where it is sure not to fail
-pub is_faulty : (s : Start) (before now : ℕ) (failed : Bool) → HasCause before now failed → (s.quiet ≡ true → failed ≡ false) → failed ≡ true → Faulty s now
-is_faulty s before now failed cause never is =
-    let rose = cause.rose is in (
-      omega (arith, rose),
-      elim (cases_Bool s.quiet) [
-        | inl quiet ↦ absurd (contra failed is (never quiet))
-        | inr other ↦ other
-      ],
-    )
-
-pub never_err : {T E : Type 0} (result : Result T E) → (IsErr result → ⊥) → is_err result ≡ false
-never_err (Ok x) never = refl
-never_err (Err e) never = absurd (never refl)
-
-pub on_ok : {T E : Type 0} (result : Result T E) (P : Type 0) → is_err result ≡ false → OnOk result P → P
-on_ok (Ok x) P ok h = h
-on_ok (Err e) P ok h = absurd cc

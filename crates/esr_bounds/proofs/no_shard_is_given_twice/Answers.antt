@@ -8,4 +8,5 @@ returns-clause-shards c = λ f size w log j k index number t u tracked untouched
 
 pub returns-clause-restores : goal.returns-clause-restores
 returns-clause-restores c = λ f size w log j k p q tracked reads untouched legal at_j at_k op index number.
-    (reads_once f size (c.each_step_is_one_change.ensures f) (c.each_step_leaves_the_others.ensures.frame f) (c.each_step_is_tracked.ensures f size) (c.each_step_tracks_restores.ensures f size) w log tracked reads (untouched_reads w untouched) legal).one j k p q at_j at_k op index number
+    (reads_once f size (c.each_step_is_one_change.ensures f) (c.each_step_leaves_the_others.ensures.frame f) (c.each_step_is_tracked.ensures f size)
+    (c.each_step_tracks_restores.ensures f size) w log tracked reads (untouched_reads w untouched) legal).one j k p q at_j at_k op index number

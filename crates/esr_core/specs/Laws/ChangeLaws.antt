@@ -1,8 +1,9 @@
 -- Each step is one change, and what follows for all.
-use Rattle.std.proofs.Common.{◌≡◌, ◌⊎◌, ℕ, zero, suc, ◌+◌, ◌≤◌, List, [], Bool, true, false, Option, Some, None, refl, sym, ap, ◌∙◌, subst, inl, inr, arith}
+use Rattle.std.proofs.Common.{◌≡◌, ◌⊎◌, ℕ, zero, suc, ◌+◌, ◌≤◌, List, [], Bool, true, false, Option, Some, None, refl, sym, ap, ◌∙◌, subst, inl, inr, arith, le_refl, le-add_right}
 use Rattle.std.specs.Prelude.{if◌then◌else◌}
 use Rattle.std.proofs.lemmas.Option.{same_Some}
 use Rattle.std.specs.FinMap as fin
+use Rattle.std.proofs.lemmas.Bool.{false≢true}
 use Rattle.esr_model.specs.Names.{BlobName}
 use Rattle.esr_model.specs.Values.{Bytes, Has, ShardResult, Formats}
 use Rattle.esr_model.specs.Delete.{PrunedShard, kept_count}
@@ -25,9 +26,6 @@ same_op op shards = record { name = refl; uuid = refl; moment = refl; indices = 
 
 failed_op : (op : Op) (shards : List ShardWork) → SameOp op (record op { shards = shards; failed = true })
 failed_op op shards = record { name = refl; uuid = refl; moment = refl; indices = refl; source = refl; aborted = refl; failed = λ e. refl }
-
-no_more : false ≡ true → ⊥
-no_more e = cc
 
 -- ---- a ticket later on
 
@@ -60,7 +58,7 @@ pub same_unit : (t : Ticket) → SameUnit t t
 same_unit t = unit_left t t refl (λ n h. h) (λ n b h. h) (λ n b h. h) (λ e. e) (λ e. e)
 
 pub over_unit : (t : Ticket) → SameUnit t (record t { out = false })
-over_unit t = unit_left t (record t { out = false }) refl (λ n h. h) (λ n b h. h) (λ n b h. h) (λ e. e) (λ e. absurd (no_more e))
+over_unit t = unit_left t (record t { out = false }) refl (λ n h. h) (λ n b h. h) (λ n b h. h) (λ e. e) (λ e. absurd (false≢true e))
 
 pub settled_unit : (t : Ticket) → SameUnit t (record t { settled = true })
 settled_unit t = unit_left t (record t { settled = true }) refl (λ n h. h) (λ n b h. h) (λ n b h. h) (λ e. refl) (λ e. e)
@@ -126,18 +124,12 @@ planned_unit f shards first t =
 
 -- ---- each step is one change
 
-more : (n m : ℕ) → n ≤ n + m
-more n m = omega arith
-
-one_more : (n : ℕ) → n ≤ suc n
+pub one_more : (n : ℕ) → n ≤ suc n
 one_more n = omega arith
-
-same : (n : ℕ) → n ≤ n
-same n = omega arith
 
 module _ (f : Formats) (w : World) (k : ℕ) (step : Step) where
   puts : (t v : Ticket) → fin.get w.tickets k ≡ Some t → SameUnit t v → v.settled ≡ t.settled → StepChange f w k step (with_ticket w k v)
-  puts t v there unit settled = OwnTicket t v there unit settled w.next_id w.pending (same w.next_id) (same w.pending)
+  puts t v there unit settled = OwnTicket t v there unit settled w.next_id w.pending (le_refl w.next_id) (le_refl w.pending)
 
   changes : (g : Ticket → Ticket) → ((t : Ticket) → SameUnit t (g t)) → ((t : Ticket) → (g t).settled ≡ t.settled) → (o : Option Ticket) → fin.get w.tickets k ≡ o → StepChange f w k step (with_given w k g o)
   changes g unit settled None there = NoChange
@@ -145,12 +137,12 @@ module _ (f : Formats) (w : World) (k : ℕ) (step : Step) where
 
   draws : (g : Ticket → Ticket) → ((t : Ticket) → SameUnit t (g t)) → ((t : Ticket) → (g t).settled ≡ t.settled) → (n : ℕ) (o : Option Ticket) → fin.get w.tickets k ≡ o
       → StepChange f w k step (record (with_given w k g o) { next_id = w.next_id + n })
-  draws g unit settled n None there = PlainDraw (w.next_id + n) w.pending (more w.next_id n) (same w.pending)
-  draws g unit settled n (Some t) there = OwnTicket t (g t) there (unit t) (settled t) (w.next_id + n) w.pending (more w.next_id n) (same w.pending)
+  draws g unit settled n None there = PlainDraw (w.next_id + n) w.pending (le-add_right w.next_id n) (le_refl w.pending)
+  draws g unit settled n (Some t) there = OwnTicket t (g t) there (unit t) (settled t) (w.next_id + n) w.pending (le-add_right w.next_id n) (le_refl w.pending)
 
   raises : (o : Option Ticket) → fin.get w.tickets k ≡ o → StepChange f w k step (record (with_given w k (λ t. record t { raised = Some w.pending }) o) { pending = suc w.pending })
-  raises None there = PlainDraw w.next_id (suc w.pending) (same w.next_id) (one_more w.pending)
-  raises (Some t) there = OwnTicket t (record t { raised = Some w.pending }) there (raised_unit t w.pending) refl w.next_id (suc w.pending) (same w.next_id) (one_more w.pending)
+  raises None there = PlainDraw w.next_id (suc w.pending) (le_refl w.next_id) (one_more w.pending)
+  raises (Some t) there = OwnTicket t (record t { raised = Some w.pending }) there (raised_unit t w.pending) refl w.next_id (suc w.pending) (le_refl w.next_id) (one_more w.pending)
 
   tries : StepChange f w k step (tried w k)
   tries = changes (λ t. record t { tried_latest = true }) tried_unit (λ t. refl) (fin.get w.tickets k) refl
@@ -168,7 +160,7 @@ module _ (f : Formats) (w : World) (k : ℕ) (step : Step) where
 
   asks_snapshot : IsAsk step → (name : Bytes) (indices : List _) (moment : ℕ) → StepChange f w k step (asked w (Snapshot name indices moment))
   asks_snapshot ask name indices moment =
-      NewOp ask (asked_op w name indices moment) (completing w.completed w.next_op (asked_op w name indices moment).shards) (w.next_id + suc (new_names w indices)) refl (more w.next_id (suc (new_names w indices)))
+      NewOp ask (asked_op w name indices moment) (completing w.completed w.next_op (asked_op w name indices moment).shards) (w.next_id + suc (new_names w indices)) refl (le-add_right w.next_id (suc (new_names w indices)))
 
   merges : IsAsk step → (names : List Bytes) (d : ℕ) (x : Option Deletion) → fin.get w.deletes d ≡ x → StepChange f w k step (delete_merged w names d x)
   merges ask names d None there = NoChange
@@ -329,7 +321,7 @@ module _ (f : Formats) (w : World) (k : ℕ) (step : Step) where
 
 module _ (f : Formats) (w : World) where
   reads_by : (k : ℕ) (read : Read) (reply : Reply) (image : Option Image) → StepChange f w k (ReadStep read) (read_by f w k read reply image)
-  reads_by zero DrawTest (DrawnFrom first) image = PlainDraw (suc w.next_id) w.pending (one_more w.next_id) (same w.pending)
+  reads_by zero DrawTest (DrawnFrom first) image = PlainDraw (suc w.next_id) w.pending (one_more w.next_id) (le_refl w.pending)
   reads_by zero (CommitTest name) WasDone image = TestBlob name refl
   reads_by zero read reply image = NoChange
   reads_by (suc k) read reply image = reads_step f w (suc k) (ReadStep read) read reply image

@@ -3,6 +3,7 @@ use Rattle.std.proofs.Common.{◌≡◌, ◌⊎◌, ℕ, Bool, true, false, List
 use Rattle.std.specs.Prelude.{◌==◌, ◌&&◌, ◌||◌}
 use Rattle.std.specs.List.{list_any}
 use Rattle.std.proofs.lemmas.Bool.{eqb-true as number_is, and_from, cond-true, cond-false, cases_Bool, and_parts}
+use Rattle.std.proofs.lemmas.Option.{same_Some}
 use Rattle.esr_model.specs.Names.{BlobName, Root, Latest, Snap, Meta, IndexMeta, ShardSnap, ShardIndex, File, Part, TestMaster, TestNode}
 use Rattle.esr_model.specs.Values.{Bytes, Has, RootSnap, RootIndex, RootData, FileEntry, SnapList, ShardFiles, Formats}
 use Rattle.esr_model.specs.Shelf.{names_uuid}
@@ -10,7 +11,7 @@ use Rattle.esr_model.specs.Parts.{part_names}
 use Rattle.esr_model.specs.Image.{IsOne, Reads, Generation, index_at, at_shard_of}
 use Rattle.esr_model.specs.Reach.{Reached, ReachSnap, ReachMeta, ReachIndexMeta, ReachIndex, ReachShardSnap, ReachPart}
 use Rattle.esr_model.specs.Delete.{uuids_of, files_read}
-use Rattle.esr_model.specs.Cleanup.{BlobSize, names_listed, held_by, held_of, lists_uuid, is_file, is_part, has_piece, is_generation, reaches, unreached, cleaned_names}
+use Rattle.esr_model.specs.Cleanup.{BlobSize, names_listed, held_by, held_of, lists_uuid, is_file, is_part, has_piece, is_generation, reaches, unreached, cleaned_names, and_name}
 use Rattle.esr_core.specs.Pruning.{bare_shard}
 use Rattle.esr_core.specs.Laws.DeleteRoots.{has_names, names_has}
 use Rattle.esr_core.specs.Laws.DoomNames.{uuid_of}
@@ -22,7 +23,7 @@ use Rattle.esr_model.specs.Lists.{Has-map}
 -- ---- tests
 
 -- some member passes
-any_was : {A : Type 0} (test : A → Bool) (xs : List A) → list_any test xs ≡ true → (x : A) × Has xs x × (test x ≡ true)
+pub any_was : {A : Type 0} (test : A → Bool) (xs : List A) → list_any test xs ≡ true → (x : A) × Has xs x × (test x ≡ true)
 any_was test [] e = absurd (clash false e refl)
 any_was test (y ∷ ys) e = elim (cases_Bool (test y)) [
   | inl b ↦ (y, inl refl, b)
@@ -165,7 +166,7 @@ module _ (f : Formats) (has : BlobName → Bytes → Type 0) (root : RootData) (
 
 -- ---- what is doomed
 
-unreached_was : (f : Formats) (number : Option ℕ) (root : RootData) (read : List (BlobName × Bytes)) (names : List BlobName) (name : BlobName) → Has (unreached f number root read names) name
+pub unreached_was : (f : Formats) (number : Option ℕ) (root : RootData) (read : List (BlobName × Bytes)) (names : List BlobName) (name : BlobName) → Has (unreached f number root read names) name
     → Has names name × (reaches f number root read name ≡ false)
 unreached_was f number root read [] name m = absurd m
 unreached_was f number root read (x ∷ names) name m = elim (cases_Bool (reaches f number root read x)) [
@@ -180,3 +181,27 @@ pub cleaned_was : (f : Formats) (number : Option ℕ) (root : RootData) (read : 
     → Has (names_listed f listed) name × (reaches f number root read name ≡ false)
 unfolding cleaned_names
 cleaned_was f number root read listed name m = unreached_was f number root read (names_listed f listed) name m
+
+pub was_and : (o : Option BlobName) (names : List BlobName) (name : BlobName) → Has (and_name o names) name → (o ≡ Some name) ⊎ Has names name
+was_and None names name m = inr m
+was_and (Some x) names name (inl e) = inl (ap (λ (y : BlobName). Some y) e)
+was_and (Some x) names name (inr m) = inr m
+
+pub and_first : (o : Option BlobName) (names : List BlobName) (name : BlobName) → o ≡ Some name → Has (and_name o names) name
+and_first None names name e = absurd (never e)
+  where
+    never : ◌≡◌ {A = Option BlobName} None (Some name) → ⊥
+    never e = cc
+and_first (Some x) names name e = inl (same_Some x name e)
+
+pub and_later : (o : Option BlobName) (names : List BlobName) (name : BlobName) → Has names name → Has (and_name o names) name
+and_later None names name m = m
+and_later (Some x) names name m = inr m
+
+-- each is that of a blob
+pub listed_was : (f : Formats) (xs : List BlobSize) (name : BlobName) → Has (names_listed f xs) name → (b : BlobSize) × Has xs b × (f.names.read b.text ≡ Some name)
+listed_was f [] name m = absurd m
+listed_was f (b ∷ xs) name m = elim (was_and (f.names.read b.text) (names_listed f xs) name m) [
+  | inl e ↦ (b, inl refl, e)
+  | inr later ↦ let (c, there, e) = listed_was f xs name later in (c, inr there, e)
+]

@@ -1,7 +1,7 @@
 -- A delete that is asked: what its names name, the delete that it goes into, and what it makes of the open ops.
-use Rattle.std.proofs.Common.{◌≡◌, ◌⊎◌, ℕ, Bool, true, false, not, ◌&&◌, ◌==◌, List, [], ◌∷◌, ◌++◌, append-nil, append_assoc, Option, Some, None, refl, sym, ap, ◌∙◌, subst, inl, inr}
+use Rattle.std.proofs.Common.{◌≡◌, ◌⊎◌, ℕ, Bool, true, false, not, ◌==◌, List, [], ◌∷◌, ◌++◌, append-nil, append_assoc, Option, Some, None, refl, sym, ap, ◌∙◌, subst, inl, inr}
 use Rattle.std.specs.Prelude.{option_map}
-use Rattle.std.proofs.lemmas.Bool.{eq-eqb, and_parts, and_from, not-true, cond-true, cond-false, cases_Bool}
+use Rattle.std.proofs.lemmas.Bool.{eq-eqb, and_parts, and_from, not-true, cond-true, cond-false, cases_Bool, and_right, and_left}
 use Rattle.std.proofs.lemmas.Option.{same_Some, none-some}
 use Rattle.std.specs.FinMap as fin
 use Rattle.esr_model.specs.Values.{Bytes, Has, RootSnap}
@@ -14,15 +14,6 @@ use Rattle.esr_core.specs.Laws.AbortLaws.{aborted_at}
 use Rattle.esr_core.specs.Laws.Maps.{entry_got, got_entry}
 use Rattle.esr_core.specs.Laws.Tests.{same_one, clash, any_of}
 use Rattle.esr_model.specs.Lists.{Has-either}
-
--- ---- tests
-
-first_not : (a b : Bool) → a ≡ false → (a && b) ≡ false
-first_not a b e = ap (λ (x : Bool). x && b) e
-
-pub second_not : (a b : Bool) → b ≡ false → (a && b) ≡ false
-second_not true b e = e
-second_not false b e = refl
 
 -- ---- what a name names
 
@@ -132,7 +123,7 @@ module _ (w : World) (uuids : List ℕ) (by : ℕ) where
         stays = λ o old e. (now_at o old, get_at o ∙ ap (option_map (now_at o)) e, became o old);
         first = λ o old op b e now aborted.
             same_Some _ _ (sym now ∙ get_at o ∙ ap (option_map (now_at o)) e)
-            ∙ spared o old (second_not (names_uuid uuids old.uuid) _ (first_not (is_unaborted old.aborted) _ (ap is_unaborted aborted)));
+            ∙ spared o old (and_right (names_uuid uuids old.uuid) _ (and_left (is_unaborted old.aborted) _ (ap is_unaborted aborted)));
       }
     where
       was_at : (o : ℕ) (op : Op) (found : Option Op) → fin.get w.ops o ≡ found → option_map (now_at o) found ≡ Some op → (old : Op) × (fin.get w.ops o ≡ Some old) × ((op ≡ old) ⊎ (op ≡ record old { aborted = Some by }))

@@ -22,7 +22,7 @@ use Rattle.esr_core.specs.Laws.SortedLists.{in_places, Has-sorted, sorted-Has}
 use Rattle.esr_core.specs.Laws.Tests.{told}
 use Rattle.esr_model.specs.Lists.{Has-map, Has-mapped, Has-append, Has-left, Has-right, Has-either}
 
-larger_none : (a : Option ℕ) → larger a None ≡ a
+pub larger_none : (a : Option ℕ) → larger a None ≡ a
 larger_none None = refl
 larger_none (Some x) = refl
 

@@ -13,7 +13,7 @@ use Rattle.esr_core.specs.Laws.ShardStates.{place_has}
 use Rattle.esr_core.specs.Laws.SortedLists.{sorted-Has}
 use Rattle.esr_model.specs.Lists.{Has-left, Has-right}
 
-numbered_has : (r : IndexRef) (first n k : ℕ) → first ≤ k → k < first + n → Has (numbered r first n) (r, k)
+pub numbered_has : (r : IndexRef) (first n k : ℕ) → first ≤ k → k < first + n → Has (numbered r first n) (r, k)
 numbered_has r first zero k low high = absurd (omega (arith, low, high))
 numbered_has r first (suc n) k low high = elim (eqb_tells first k) [
   | inl h ↦ inl (ap (λ (x : ℕ). (r, x)) h.1)

@@ -48,7 +48,7 @@ known_is w a id e = elim (told (root_index_id w.root.indices a.name)) [
       inr (p.0, p.1, r, entry_got w.ops p.0 p.1 m, rm, name, is)
 ]
 
-ref_name : (a : AskedIndex) (o : Option ℕ) (next : ℕ) → (ref_by a o next).name ≡ a.name
+pub ref_name : (a : AskedIndex) (o : Option ℕ) (next : ℕ) → (ref_by a o next).name ≡ a.name
 ref_name a None next = refl
 ref_name a (Some id) next = refl
 
@@ -180,7 +180,7 @@ pending_one w asked next d s z sm zm ref number =
 -- ---- names that are not known
 
 -- no value is found where neither look-up finds one
-neither : {A : Type 0} (a b : Option A) → or_else a b ≡ None → (a ≡ None) × (b ≡ None)
+pub neither : {A : Type 0} (a b : Option A) → or_else a b ≡ None → (a ≡ None) × (b ≡ None)
 neither None b e = (refl, e)
 neither (Some a) b e = absurd (none-some a (sym e))
 

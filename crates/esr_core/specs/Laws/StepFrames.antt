@@ -1,5 +1,5 @@
 -- What each step leaves, by the change that it is.
-use Rattle.std.proofs.Common.{◌≡◌, ◌≢◌, ◌⊎◌, ℕ, zero, suc, ◌≤◌, List, true, false, Option, Some, refl, sym, ap, ◌∙◌, subst, inl, inr, arith, nat_cmp}
+use Rattle.std.proofs.Common.{◌≡◌, ◌≢◌, ◌⊎◌, ℕ, zero, suc, ◌≤◌, List, true, false, Option, Some, refl, sym, ap, ◌∙◌, subst, inl, inr, nat_cmp, le_refl}
 use Rattle.std.specs.Cmp.{nat_cmp_total}
 use Rattle.std.proofs.lemmas.Bool.Decides.{eqb_tells}
 use Rattle.std.specs.FinMap.{FinMap, nat_cmp-IsAntisymmetric}
@@ -14,16 +14,10 @@ use Rattle.esr_core.specs.After.{caller_after, answered, after}
 use Rattle.esr_core.specs.Allowed.{Allowed}
 use Rattle.esr_core.specs.Changes.{IsNewTicket, SameUnit, StepChange, NoChange, NewOp, NewDeletion, MergedDeletion, NewRestore, NewTicket, NewReader, OwnTicket, Settlement, UnitEnd, DeletionFailure, OpDrop, Election, ReaderFetch, ReaderEnd, PlainDraw, TestBlob, SwapFault, TicketsCome, TicketsStay, StepFrame, IsReaders, IsUnits, Maker, ClientStep, ReaderStep, UnitStep}
 use Rattle.esr_core.specs.Laws.Asides.{blocked_stays}
-use Rattle.esr_core.specs.Laws.ChangeLaws.{same_unit, over_unit, settled_unit, change_of}
+use Rattle.esr_core.specs.Laws.ChangeLaws.{same_unit, over_unit, settled_unit, change_of, one_more as up}
 use Rattle.esr_core.specs.Laws.Makers.{maker}
 use Rattle.esr_core.specs.Laws.Maps.{get_same, get_other, get_was}
 use Rattle.esr_model.specs.Lists.{Has-right}
-
-le : (n : ℕ) → n ≤ n
-le n = omega arith
-
-up : (n : ℕ) → n ≤ suc n
-up n = omega arith
 
 -- all maps but its own place and the next stay
 abbrev OthersStay : {X : Type 0} → World → ℕ → FinMap nat_cmp X → FinMap nat_cmp X → Type 0
@@ -88,14 +82,14 @@ module _ (f : Formats) (w : World) (who : ℕ) (step : Step) where
       (λ name h. subst (λ (names : List BlobName). Has names name) (sym doomed) h)
 
   frame : (new : World) → StepChange f w who step new → StepFrame w new who step
-  frame new NoChange = quiet new (kept_same w who) (others_same w who w.readers) refl refl refl (le w.next_op) (le w.next_ticket) (le w.pending) (λ name h. h)
-  frame new (NewOp ask op completed next_id uuid above) = quiet new (kept_same w who) (others_same w who w.readers) refl refl refl (up w.next_op) (le w.next_ticket) (le w.pending) (λ name h. h)
-  frame new (NewDeletion ask ops x aborts clean) = quiet new (kept_same w who) (others_same w who w.readers) refl refl refl (up w.next_op) (le w.next_ticket) (le w.pending) (λ name h. h)
-  frame new (MergedDeletion ask ops d x v aborts there clean failed) = quiet new (kept_same w who) (others_same w who w.readers) refl refl refl (le w.next_op) (le w.next_ticket) (le w.pending) (λ name h. h)
-  frame new (NewRestore ask r) = quiet new (kept_same w who) (others_same w who w.readers) refl refl refl (up w.next_op) (le w.next_ticket) (le w.pending) (λ name h. h)
-  frame new (NewTicket take t fresh ops same) = quiet new (kept_new w who t fresh) (others_same w who w.readers) refl refl refl (le w.next_op) (up w.next_ticket) (le w.pending) (λ name h. h)
-  frame new (NewReader take o r s there) = quiet new (kept_same w who) (others_new w who w.readers _) refl refl refl (le w.next_op) (up w.next_ticket) (le w.pending) (λ name h. h)
-  frame new (OwnTicket t v there unit settled next_id pending id_above above) = put t v there unit new refl refl refl refl refl (le w.next_op) (le w.next_ticket) above refl
+  frame new NoChange = quiet new (kept_same w who) (others_same w who w.readers) refl refl refl (le_refl w.next_op) (le_refl w.next_ticket) (le_refl w.pending) (λ name h. h)
+  frame new (NewOp ask op completed next_id uuid above) = quiet new (kept_same w who) (others_same w who w.readers) refl refl refl (up w.next_op) (le_refl w.next_ticket) (le_refl w.pending) (λ name h. h)
+  frame new (NewDeletion ask ops x aborts clean) = quiet new (kept_same w who) (others_same w who w.readers) refl refl refl (up w.next_op) (le_refl w.next_ticket) (le_refl w.pending) (λ name h. h)
+  frame new (MergedDeletion ask ops d x v aborts there clean failed) = quiet new (kept_same w who) (others_same w who w.readers) refl refl refl (le_refl w.next_op) (le_refl w.next_ticket) (le_refl w.pending) (λ name h. h)
+  frame new (NewRestore ask r) = quiet new (kept_same w who) (others_same w who w.readers) refl refl refl (up w.next_op) (le_refl w.next_ticket) (le_refl w.pending) (λ name h. h)
+  frame new (NewTicket take t fresh ops same) = quiet new (kept_new w who t fresh) (others_same w who w.readers) refl refl refl (le_refl w.next_op) (up w.next_ticket) (le_refl w.pending) (λ name h. h)
+  frame new (NewReader take o r s there) = quiet new (kept_same w who) (others_new w who w.readers _) refl refl refl (le_refl w.next_op) (up w.next_ticket) (le_refl w.pending) (λ name h. h)
+  frame new (OwnTicket t v there unit settled next_id pending id_above above) = put t v there unit new refl refl refl refl refl (le_refl w.next_op) (le_refl w.next_ticket) above refl
   frame new (Settlement e t s n names deletes there is raised left) =
       let tickets = kept_put w who t (record t { settled = true }) there (settled_unit t) in
       record {
@@ -105,14 +99,14 @@ module _ (f : Formats) (w : World) (who : ℕ) (step : Step) where
         stay = tickets.stay;
         term = inl refl;
         root = inr e;
-        next_op = le w.next_op;
-        next_ticket = le w.next_ticket;
-        pending = le w.pending;
+        next_op = le_refl w.next_op;
+        next_ticket = le_refl w.next_ticket;
+        pending = le_refl w.pending;
         doomed = λ name h. Has-right names w.doomed name h;
       }
-  frame new (UnitEnd t op v completed there found same) = put t (record t { out = false }) there (over_unit t) new refl refl refl refl refl (le w.next_op) (le w.next_ticket) (le w.pending) refl
-  frame new (DeletionFailure t x there found) = put t (record t { out = false }) there (over_unit t) new refl refl refl refl refl (le w.next_op) (le w.next_ticket) (le w.pending) refl
-  frame new (OpDrop e t there) = put t (record t { out = false }) there (over_unit t) new refl refl refl refl refl (le w.next_op) (le w.next_ticket) (le w.pending) refl
+  frame new (UnitEnd t op v completed there found same) = put t (record t { out = false }) there (over_unit t) new refl refl refl refl refl (le_refl w.next_op) (le_refl w.next_ticket) (le_refl w.pending) refl
+  frame new (DeletionFailure t x there found) = put t (record t { out = false }) there (over_unit t) new refl refl refl refl refl (le_refl w.next_op) (le_refl w.next_ticket) (le_refl w.pending) refl
+  frame new (OpDrop e t there) = put t (record t { out = false }) there (over_unit t) new refl refl refl refl refl (le_refl w.next_op) (le_refl w.next_ticket) (le_refl w.pending) refl
   frame new (Election e) =
       record {
         others = others_same w who w.tickets;
@@ -121,21 +115,21 @@ module _ (f : Formats) (w : World) (who : ℕ) (step : Step) where
         stay = λ k t apart there. (t, there, same_unit t);
         term = inr e;
         root = inl (refl, refl);
-        next_op = le w.next_op;
-        next_ticket = le w.next_ticket;
-        pending = le w.pending;
+        next_op = le_refl w.next_op;
+        next_ticket = le_refl w.next_ticket;
+        pending = le_refl w.pending;
         doomed = λ name h. h;
       }
-  frame new (ReaderFetch q name bytes there) = quiet new (kept_same w who) (others_put w who w.readers _) refl refl refl (le w.next_op) (le w.next_ticket) (le w.pending) (λ name h. h)
-  frame new (ReaderEnd q r state there found) = quiet new (kept_same w who) (others_put w who w.readers _) refl refl refl (le w.next_op) (le w.next_ticket) (le w.pending) (λ name h. h)
-  frame new (PlainDraw next_id pending id_above above) = quiet new (kept_same w who) (others_same w who w.readers) refl refl refl (le w.next_op) (le w.next_ticket) above (λ name h. h)
-  frame new (TestBlob name is) = quiet new (kept_same w who) (others_same w who w.readers) refl refl refl (le w.next_op) (le w.next_ticket) (le w.pending) (λ m h. inr h)
+  frame new (ReaderFetch q name bytes there) = quiet new (kept_same w who) (others_put w who w.readers _) refl refl refl (le_refl w.next_op) (le_refl w.next_ticket) (le_refl w.pending) (λ name h. h)
+  frame new (ReaderEnd q r state there found) = quiet new (kept_same w who) (others_put w who w.readers _) refl refl refl (le_refl w.next_op) (le_refl w.next_ticket) (le_refl w.pending) (λ name h. h)
+  frame new (PlainDraw next_id pending id_above above) = quiet new (kept_same w who) (others_same w who w.readers) refl refl refl (le_refl w.next_op) (le_refl w.next_ticket) above (λ name h. h)
+  frame new (TestBlob name is) = quiet new (kept_same w who) (others_same w who w.readers) refl refl refl (le_refl w.next_op) (le_refl w.next_ticket) (le_refl w.pending) (λ m h. inr h)
   frame new (SwapFault e v h) =
       let s = frame v h in
       record { others = s.others; readers = s.readers; come = s.come; stay = s.stay; term = s.term; root = s.root; next_op = s.next_op; next_ticket = s.next_ticket; pending = s.pending; doomed = s.doomed }
 
   -- what who 0 has done is told by the moment
-  change_caller : (new : World) → StepChange f w who step new → new.caller ≡ w.caller
+  pub change_caller : (new : World) → StepChange f w who step new → new.caller ≡ w.caller
   change_caller new NoChange = refl
   change_caller new (NewOp ask op completed next_id uuid above) = refl
   change_caller new (NewDeletion ask ops x aborts clean) = refl

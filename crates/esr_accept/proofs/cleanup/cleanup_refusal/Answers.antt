@@ -12,4 +12,5 @@ returns c w is =
     let ticket = c.first_out.result in
     let found : c.refusal.result ≡ cleanup_refusal (open_cleanup s.deletes.now) (lower_of (first_number s.ops.now) (first_number s.deletes.now)) ticket =
     c.refusal.ensures in
-    subst (λ (o : Option Refusal). IsCleanupRuledOn w o) (sym found) (ruled s.ops.now s.deletes.now s.completed.now s.tickets.now s.next_op s.restores.now c.args.progress.now c.lists-list.ensures.view c.lists-list.ensures.valid w is ticket (c.first_out.ensures w is))
+    subst (λ (o : Option Refusal). IsCleanupRuledOn w o) (sym found)
+    (ruled s.ops.now s.deletes.now s.completed.now s.tickets.now s.next_op s.restores.now c.args.progress.now c.lists-list.ensures.view c.lists-list.ensures.valid w is ticket (c.first_out.ensures w is))

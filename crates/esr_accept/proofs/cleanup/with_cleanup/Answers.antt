@@ -12,7 +12,8 @@ with_lists-requires c =
     let deletes_are = c.in_ok-push.ensures.items ∙ (λ j. copied j ++ c.cleanup.ensures j ∷ []) in
     let number : s.next_op ≡ c.args.progress.now.next_op = ap (λ (q : Plan). q.next_op) c.lists-list.ensures.view in
     let room : c.args.progress.now.next_op < 2 ^ 62 = c.requires.room in
-    cleanup_keeps s.ops.now s.deletes.now s.completed.now s.tickets.now s.next_op s.restores.now c.args.progress.now c.lists-list.ensures.view c.lists-list.ensures.valid c.in_ok-ops.ops.items ops_are c.push.new.self.items deletes_are (omega (arith, number, room))
+    cleanup_keeps s.ops.now s.deletes.now s.completed.now s.tickets.now s.next_op s.restores.now c.args.progress.now c.lists-list.ensures.view
+    c.lists-list.ensures.valid c.in_ok-ops.ops.items ops_are c.push.new.self.items deletes_are (omega (arith, number, room))
 
 pub returns : goal.returns
 returns c =

@@ -34,7 +34,8 @@ clone c w is may listing =
     let root = root_of c.args.root.now in
     let uuid = c.in-Some-listed.uuid in
     let missing = c.first_missing-missing.ensures ∙ ap (λ (ns : List Bytes). position (lacks_index root.indices uuid.number) ns) c.as_slice.ensures in
-    may_clone s.ops.now s.deletes.now s.completed.now s.tickets.now s.next_op s.restores.now c.args.progress.now c.lists-list.ensures.view c.lists-list.ensures.valid root c.args.term c.args.next.number w is c.args.source.now c.args.name.now c.args.indices.now may uuid.number listing
+    may_clone s.ops.now s.deletes.now s.completed.now s.tickets.now s.next_op s.restores.now c.args.progress.now c.lists-list.ensures.view
+    c.lists-list.ensures.valid root c.args.term c.args.next.number w is c.args.source.now c.args.name.now c.args.indices.now may uuid.number listing
     c.deleting.result c.first_missing-missing.result c.deleting.ensures missing (sym c.in_default-source_refusal.is ∙ c.source_refusal.ensures)
 
 pub returns-in-Some : goal.returns-in-Some
@@ -43,14 +44,18 @@ returns-in-Some c w is =
     let list = listed s.ops.now s.deletes.now s.completed.now s.tickets.now s.next_op s.restores.now c.args.progress.now c.lists-list.ensures.valid c.lists-list.ensures.view in
     let cleanup = c.open_cleanup.ensures in
     let user = c.name_user-user.ensures in
-    name_refused s.ops.now s.deletes.now c.args.progress.now (root_of c.args.root.now) c.args.term c.args.next.number list w is c.args.source.now c.args.name.now c.args.indices.now c.open_cleanup.result c.name_user-user.result cleanup user c.in-Some.refusal
+    name_refused s.ops.now s.deletes.now c.args.progress.now (root_of c.args.root.now) c.args.term c.args.next.number list w is
+    c.args.source.now c.args.name.now c.args.indices.now c.open_cleanup.result c.name_user-user.result cleanup user c.in-Some.refusal
     (sym c.in-Some.is ∙ c.name_refusal.ensures)
 
 pub returns-in_default-listed : goal.returns-in_default-listed
 returns-in_default-listed c w is =
     let s = c.lists-list.result in
-    let list = listed s.ops.now s.deletes.now s.completed.now s.tickets.now s.next_op s.restores.now c.args.progress.now c.lists-list.ensures.valid c.lists-list.ensures.view in
-    (refl, named (goal.at.returns-in_default-listed c).After-listed w is, source_unlisted s.ops.now s.deletes.now c.args.progress.now (root_of c.args.root.now) c.args.term c.args.next.number list w is c.args.source.now c.listed.result c.listed.ensures c.in_default-listed.is)
+    let list = listed s.ops.now s.deletes.now s.completed.now s.tickets.now s.next_op s.restores.now c.args.progress.now c.lists-list.ensures.valid c.lists-list.ensures.view in (
+      refl,
+      named (goal.at.returns-in_default-listed c).After-listed w is,
+      source_unlisted s.ops.now s.deletes.now c.args.progress.now (root_of c.args.root.now) c.args.term c.args.next.number list w is c.args.source.now c.listed.result c.listed.ensures c.in_default-listed.is,
+    )
 
 pub returns-in-Some-source_refusal : goal.returns-in-Some-source_refusal
 returns-in-Some-source_refusal c w is =
@@ -59,8 +64,10 @@ returns-in-Some-source_refusal c w is =
     let uuid = c.in-Some-listed.uuid in
     let at = goal.at.returns-in-Some-source_refusal c in
     let missing = c.first_missing-missing.ensures ∙ ap (λ (ns : List Bytes). position (lacks_index root.indices uuid.number) ns) c.as_slice.ensures in
-    source_refused s.ops.now s.deletes.now s.completed.now s.tickets.now s.next_op s.restores.now c.args.progress.now c.lists-list.ensures.view c.lists-list.ensures.valid root c.args.term c.args.next.number w is c.args.source.now c.args.name.now c.args.indices.now
-    (named at.After-listed w is) uuid.number (there at.After-source_refusal w is) c.deleting.result c.first_missing-missing.result c.deleting.ensures missing c.in-Some-source_refusal.refusal (sym c.in-Some-source_refusal.is ∙ c.source_refusal.ensures)
+    source_refused s.ops.now s.deletes.now s.completed.now s.tickets.now s.next_op s.restores.now c.args.progress.now c.lists-list.ensures.view
+    c.lists-list.ensures.valid root c.args.term c.args.next.number w is c.args.source.now c.args.name.now c.args.indices.now
+    (named at.After-listed w is) uuid.number (there at.After-source_refusal w is) c.deleting.result c.first_missing-missing.result
+    c.deleting.ensures missing c.in-Some-source_refusal.refusal (sym c.in-Some-source_refusal.is ∙ c.source_refusal.ensures)
 
 pub returns-then-is_full : goal.returns-then-is_full
 returns-then-is_full c w is =

@@ -7,7 +7,8 @@ use Rattle.esr_accept.proofs.delete.grown_deletes.Goals as goal
 
 pub loop-delete-preserved : goal.loop-delete-preserved
 loop-delete-preserved c =
-    map_more (growing (map number_of c.args.uuids.now) c.args.number) c.args.deletes.now c.loop-delete.delete-index c.delete-item.result c.loop-delete-test.true c.delete-item.is c.loop-delete.copy.items c.in_ok-grown.field-0 c.push.new.self.items c.loop-delete.invariant
+    map_more (growing (map number_of c.args.uuids.now) c.args.number) c.args.deletes.now c.loop-delete.delete-index c.delete-item.result
+    c.loop-delete-test.true c.delete-item.is c.loop-delete.copy.items c.in_ok-grown.field-0 c.push.new.self.items c.loop-delete.invariant
     c.in_ok-grown.ensures c.in_ok-push.ensures.items
 
 pub returns : goal.returns

@@ -10,7 +10,8 @@ with_lists-requires c =
     let uuids = map number_of c.args.uuids.now in
     let ops_are = c.in_ok-ops.ensures in
     let deletes_are = c.in_ok-deletes.ensures in
-    merged_keeps s.ops.now s.deletes.now s.completed.now s.tickets.now s.next_op s.restores.now c.args.progress.now c.lists-list.ensures.view c.lists-list.ensures.valid c.args.term uuids c.args.number c.in_ok-ops.ops.items ops_are c.in_ok-deletes.deletes.items deletes_are
+    merged_keeps s.ops.now s.deletes.now s.completed.now s.tickets.now s.next_op s.restores.now c.args.progress.now c.lists-list.ensures.view
+    c.lists-list.ensures.valid c.args.term uuids c.args.number c.in_ok-ops.ops.items ops_are c.in_ok-deletes.deletes.items deletes_are
 
 pub returns : goal.returns
 returns c =
@@ -20,4 +21,5 @@ returns c =
     let deletes_are = c.in_ok-deletes.ensures in
     ok_maps c.with_lists.result c.with_lists.ensures
     (λ p new_is w names is term_is named there.
-    merged_is s.ops.now s.deletes.now s.completed.now s.tickets.now s.next_op s.restores.now c.args.progress.now c.lists-list.ensures.view c.lists-list.ensures.valid c.args.term w is term_is uuids c.args.number c.in_ok-ops.ops.items ops_are c.in_ok-deletes.deletes.items names named deletes_are there p new_is)
+    merged_is s.ops.now s.deletes.now s.completed.now s.tickets.now s.next_op s.restores.now c.args.progress.now c.lists-list.ensures.view c.lists-list.ensures.valid
+    c.args.term w is term_is uuids c.args.number c.in_ok-ops.ops.items ops_are c.in_ok-deletes.deletes.items names named deletes_are there p new_is)

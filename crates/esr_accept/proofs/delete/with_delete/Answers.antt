@@ -16,7 +16,8 @@ with_lists-requires c =
     let deletes_are = c.in_ok-push.ensures.items ∙ (λ j. copied j ++ c.new.ensures j ∷ []) in
     let number : s.next_op ≡ c.args.progress.now.next_op = ap (λ (q : Plan). q.next_op) c.lists-list.ensures.view in
     let room : c.args.progress.now.next_op < 2 ^ 62 = c.requires.room in
-    opened_keeps s.ops.now s.deletes.now s.completed.now s.tickets.now s.next_op s.restores.now c.args.progress.now c.lists-list.ensures.view c.lists-list.ensures.valid c.args.term uuids s.next_op c.in_ok-ops.ops.items ops_are c.push.new.self.items (s.next_op, kept_delete uuids) refl deletes_are (omega (arith, number, room))
+    opened_keeps s.ops.now s.deletes.now s.completed.now s.tickets.now s.next_op s.restores.now c.args.progress.now c.lists-list.ensures.view c.lists-list.ensures.valid
+    c.args.term uuids s.next_op c.in_ok-ops.ops.items ops_are c.push.new.self.items (s.next_op, kept_delete uuids) refl deletes_are (omega (arith, number, room))
 
 pub returns : goal.returns
 returns c =
@@ -27,4 +28,5 @@ returns c =
     let deletes_are = c.in_ok-push.ensures.items ∙ (λ j. copied j ++ c.new.ensures j ∷ []) in
     ok_maps c.with_lists.result c.with_lists.ensures
     (λ p new_is w is term_is.
-    opened_is s.ops.now s.deletes.now s.completed.now s.tickets.now s.next_op s.restores.now c.args.progress.now c.lists-list.ensures.view c.lists-list.ensures.valid c.args.term w is term_is uuids s.next_op c.in_ok-ops.ops.items ops_are c.push.new.self.items refl deletes_are p new_is)
+    opened_is s.ops.now s.deletes.now s.completed.now s.tickets.now s.next_op s.restores.now c.args.progress.now c.lists-list.ensures.view
+    c.lists-list.ensures.valid c.args.term w is term_is uuids s.next_op c.in_ok-ops.ops.items ops_are c.push.new.self.items refl deletes_are p new_is)

@@ -31,7 +31,8 @@ pub overflow_add-drawn : goal.overflow_add-drawn
 overflow_add-drawn c =
     let asked = c.parts-moment.result.1.now in
     let is : c.in_ok-refs.new ≡ new_by (known_in (root_of c.args.root.now) c.lists-list.result.ops.now) (map asked_index_of asked) = c.in_ok-refs.ensures.new in
-    let le : new_by (known_in (root_of c.args.root.now) c.lists-list.result.ops.now) (map asked_index_of asked) ≤ length (map asked_index_of asked) = new_by-le (known_in (root_of c.args.root.now) c.lists-list.result.ops.now) (map asked_index_of asked) in
+    let le : new_by (known_in (root_of c.args.root.now) c.lists-list.result.ops.now) (map asked_index_of asked) ≤ length (map asked_index_of asked) =
+    new_by-le (known_in (root_of c.args.root.now) c.lists-list.result.ops.now) (map asked_index_of asked) in
     let same : length (map asked_index_of asked) ≡ length asked = length-map asked asked_index_of in
     let fits = c.parts-moment.type_inv in
     omega arith
@@ -60,7 +61,8 @@ making_can_be_written-requires c =
     let indices = map asked_index_of c.parts-moment.result.1.now in
     let list = listed s.ops.now s.deletes.now s.completed.now s.tickets.now s.next_op s.restores.now c.args.progress.now c.lists-list.ensures.valid c.lists-list.ensures.view in
     let are = ap (λ (refs : List CodeRef). map ref_of_code refs) c.refs.view_is ∙ c.in_ok-refs.ensures.refs in
-    refs_fit s.ops.now root c.args.next.number indices c.refs.inside.items.items are s.deletes.now c.args.progress.now list c.requires.named (asked_of c.args.command.now) c.parts-moment.result.0.now c.parts-moment.result.2 c.parts-moment.ensures c.requires.askable
+    refs_fit s.ops.now root c.args.next.number indices c.refs.inside.items.items are s.deletes.now c.args.progress.now list c.requires.named
+    (asked_of c.args.command.now) c.parts-moment.result.0.now c.parts-moment.result.2 c.parts-moment.ensures c.requires.askable
 
 pub begin-requires-clause-apart : goal.begin-requires-clause-apart
 begin-requires-clause-apart c =
@@ -69,7 +71,8 @@ begin-requires-clause-apart c =
     let indices = map asked_index_of c.parts-moment.result.1.now in
     let list = listed s.ops.now s.deletes.now s.completed.now s.tickets.now s.next_op s.restores.now c.args.progress.now c.lists-list.ensures.valid c.lists-list.ensures.view in
     let are = ap (λ (refs : List CodeRef). map ref_of_code refs) c.refs.view_is ∙ c.in_ok-refs.ensures.refs in
-    refs_fit s.ops.now root c.args.next.number indices c.refs.inside.items.items are s.deletes.now c.args.progress.now list c.requires.named (asked_of c.args.command.now) c.parts-moment.result.0.now c.parts-moment.result.2 c.parts-moment.ensures c.requires.askable
+    refs_fit s.ops.now root c.args.next.number indices c.refs.inside.items.items are s.deletes.now c.args.progress.now list c.requires.named
+    (asked_of c.args.command.now) c.parts-moment.result.0.now c.parts-moment.result.2 c.parts-moment.ensures c.requires.askable
 
 pub begin-requires-clause-same : goal.begin-requires-clause-same
 begin-requires-clause-same c =

@@ -2,11 +2,12 @@ use Rattle.std.proofs.Common.{◌<◌, ℕ, map, sym, ◌∙◌, subst, get_or}
 use Rattle.std.proofs.lemmas.List.{length-map}
 use Rattle.esr_model.specs.Loops.{item_is}
 use Rattle.esr_names.specs.declared.ids.Id.{Id}
+use Rattle.esr_model.specs.Lists.{pairs_length}
 use Rattle.esr_formats.specs.Ids.{number_of}
 use Rattle.esr_formats.specs.Shards.{entry_of}
 use Rattle.esr_agreement.specs.Lists.{Names}
 use Rattle.esr_agreement.specs.AgreementTests.{so, not_so}
-use Rattle.esr_agreement.proofs.Loops.{fails, pairs_length, pairs_both, pairs_next}
+use Rattle.esr_agreement.proofs.Loops.{fails, pairs_both, pairs_next}
 use Rattle.esr_agreement.proofs.listing.names_files.Goals as goal
 
 pub returns-then-ids-files : goal.returns-then-ids-files

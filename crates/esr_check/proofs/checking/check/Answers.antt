@@ -29,7 +29,8 @@ returns-in-Err-clause-asked g c = asks_look Checked g.Q.Desk.start (g.Q.Desk.see
 
 pub returns-in-Err-clause-unchecked : goal.returns-in-Err-clause-unchecked
 returns-in-Err-clause-unchecked g c =
-    outcome_unchecked g.Q.Desk.start (g.Q.Desk.seen c.args.desk.now) (g.Q.Desk.seen c.look.new.self) LookStep (λ (l : Look). Looked (map root_snap_of l.listing) (count_of l.safe)) c.look.result c.requires.alone (λ snapshots blobs e. cc) c.look.ensures.step
+    outcome_unchecked g.Q.Desk.start (g.Q.Desk.seen c.args.desk.now) (g.Q.Desk.seen c.look.new.self) LookStep
+    (λ (l : Look). Looked (map root_snap_of l.listing) (count_of l.safe)) c.look.result c.requires.alone (λ snapshots blobs e. cc) c.look.ensures.step
 
 pub returns-in-Err-clause-grew : goal.returns-in-Err-clause-grew
 returns-in-Err-clause-grew g c =
@@ -96,7 +97,8 @@ returns-in-Err-read_all-clause-refused g c =
     let mid = g.Q.Desk.seen c.read_all.new.desk in
     let new = g.Q.Desk.seen c.give_up.new.desk in
     let e = evidence g.Q.Stage.Counted.faults g.Q.Fetch.Counted.faults g.Q.Shard.Counted.faults g.Q.Target.Counted.faults g.Q.Shard.Shard.told g.Q.Target.Target.told in
-    trouble_ends s old first mid (map root_snap_of c.in-Ok.look.listing) (count_of c.in-Ok.look.safe) c.requires.alone c.in-Ok.ensures.step c.read_all.ensures.went e c.laws.ensures new c.in-Err-read_all.trouble c.ending_of.result c.give_up.result c.ending_of.ensures c.in-Err-read_all.ensures.trouble c.in-Err-read_all.ensures.first
+    trouble_ends s old first mid (map root_snap_of c.in-Ok.look.listing) (count_of c.in-Ok.look.safe) c.requires.alone c.in-Ok.ensures.step c.read_all.ensures.went e
+    c.laws.ensures new c.in-Err-read_all.trouble c.ending_of.result c.give_up.result c.ending_of.ensures c.in-Err-read_all.ensures.trouble c.in-Err-read_all.ensures.first
     (trouble_shown e s mid (went_open s old first mid (map root_snap_of c.in-Ok.look.listing) (count_of c.in-Ok.look.safe) c.requires.alone c.in-Ok.ensures.step c.read_all.ensures.went)
     (since_look s old first mid (Looked (map root_snap_of c.in-Ok.look.listing) (count_of c.in-Ok.look.safe)) IsAny c.requires.alone c.in-Ok.ensures.step c.read_all.ensures.went) c.in-Err-read_all.trouble c.in-Err-read_all.ensures.trouble)
     c.give_up.ensures.end c.give_up.ensures.report
@@ -109,7 +111,8 @@ returns-in-Err-read_all-clause-asked g c =
     let new = g.Q.Desk.seen c.give_up.new.desk in
     let e = evidence g.Q.Stage.Counted.faults g.Q.Fetch.Counted.faults g.Q.Shard.Counted.faults g.Q.Target.Counted.faults g.Q.Shard.Shard.told g.Q.Target.Target.told in
     asks_given Checked e s (g.Q.Desk.seen c.args.desk.now) mid new c.ending_of.result c.give_up.result c.give_up.ensures.end
-    (begun_on s (g.Q.Desk.seen c.args.desk.now) first new (Looked (map root_snap_of c.in-Ok.look.listing) (count_of c.in-Ok.look.safe)) c.requires.alone c.in-Ok.ensures.step (of_check_on s first mid new (went_of_check s first mid IsAny c.read_all.ensures.went) (report_of_check s mid new c.ending_of.result c.give_up.result c.requires.alone c.give_up.ensures.report)))
+    (begun_on s (g.Q.Desk.seen c.args.desk.now) first new (Looked (map root_snap_of c.in-Ok.look.listing) (count_of c.in-Ok.look.safe)) c.requires.alone c.in-Ok.ensures.step
+    (of_check_on s first mid new (went_of_check s first mid IsAny c.read_all.ensures.went) (report_of_check s mid new c.ending_of.result c.give_up.result c.requires.alone c.give_up.ensures.report)))
 
 pub returns-in-Err-read_all-clause-unchecked : goal.returns-in-Err-read_all-clause-unchecked
 returns-in-Err-read_all-clause-unchecked g c =
@@ -138,7 +141,8 @@ end_check-requires-clause-may g c =
     let s = g.Q.Desk.start in
     let old = g.Q.Desk.seen c.args.desk.now in
     let first = g.Q.Desk.seen c.look.new.self in
-    can_end s old first (g.Q.Desk.seen c.read_all.new.desk) (map root_snap_of c.in-Ok.look.listing) (count_of c.in-Ok.look.safe) c.requires.alone c.in-Ok.ensures.step c.read_all.ensures.went c.in-Ok-read_all.blobs c.listed_count-snapshots.result c.in-Ok-read_all.ensures.so_far c.in-Ok-read_all.ensures.read
+    can_end s old first (g.Q.Desk.seen c.read_all.new.desk) (map root_snap_of c.in-Ok.look.listing)
+    (count_of c.in-Ok.look.safe) c.requires.alone c.in-Ok.ensures.step c.read_all.ensures.went c.in-Ok-read_all.blobs c.listed_count-snapshots.result c.in-Ok-read_all.ensures.so_far c.in-Ok-read_all.ensures.read
     (look_count s old first c.in-Ok.look.listing (count_of c.in-Ok.look.safe) c.listed_count-snapshots.result c.requires.alone c.in-Ok.ensures.step c.listed_count-snapshots.ensures)
 
 pub returns-in-Ok-end_check-clause-ok : goal.returns-in-Ok-end_check-clause-ok
@@ -147,7 +151,8 @@ returns-in-Ok-end_check-clause-ok g c =
     let old = g.Q.Desk.seen c.args.desk.now in
     let first = g.Q.Desk.seen c.look.new.self in
     let done = c.in-Ok-end_check.ensures in
-    has_checked s old first (g.Q.Desk.seen c.read_all.new.desk) (g.Q.Desk.seen c.end_check.new.self) c.listed_count-snapshots.result c.in-Ok-read_all.blobs c.requires.alone (look_as s old first (map root_snap_of c.in-Ok.look.listing) (count_of c.in-Ok.look.safe) c.requires.alone c.in-Ok.ensures.step) c.read_all.ensures.went
+    has_checked s old first (g.Q.Desk.seen c.read_all.new.desk) (g.Q.Desk.seen c.end_check.new.self) c.listed_count-snapshots.result c.in-Ok-read_all.blobs c.requires.alone
+    (look_as s old first (map root_snap_of c.in-Ok.look.listing) (count_of c.in-Ok.look.safe) c.requires.alone c.in-Ok.ensures.step) c.read_all.ensures.went
     c.in-Ok-read_all.ensures.so_far c.in-Ok-read_all.ensures.read done.step
     (look_count s old first c.in-Ok.look.listing (count_of c.in-Ok.look.safe) c.listed_count-snapshots.result c.requires.alone c.in-Ok.ensures.step c.listed_count-snapshots.ensures)
     (λ none.
@@ -162,7 +167,8 @@ returns-in-Ok-end_check-clause-asked g c =
     let mid = g.Q.Desk.seen c.read_all.new.desk in
     let new = g.Q.Desk.seen c.end_check.new.self in
     begun_on s (g.Q.Desk.seen c.args.desk.now) first new (Looked (map root_snap_of c.in-Ok.look.listing) (count_of c.in-Ok.look.safe)) c.requires.alone c.in-Ok.ensures.step
-    (of_check_on s first mid new (went_of_check s first mid IsAny c.read_all.ensures.went) (outcome_of_check s mid new (CheckedAll c.listed_count-snapshots.result c.in-Ok-read_all.blobs) (λ x. HasEnded) c.end_check.result c.requires.alone tt c.end_check.ensures.step))
+    (of_check_on s first mid new (went_of_check s first mid IsAny c.read_all.ensures.went)
+    (outcome_of_check s mid new (CheckedAll c.listed_count-snapshots.result c.in-Ok-read_all.blobs) (λ x. HasEnded) c.end_check.result c.requires.alone tt c.end_check.ensures.step))
 
 -- by the end of the check, also where that was refused
 end_grew : (g : _) (c : After-end_check g) → GrewBy g.Q.Desk.start 0 (g.Q.Desk.seen c.args.desk.now) (g.Q.Desk.seen c.end_check.new.self)
@@ -174,7 +180,8 @@ end_grew g c =
     let new = g.Q.Desk.seen c.end_check.new.self in
     grew_by_on s 0 old first new (outcome_grew_by s old first 0 LookStep (λ (l : Look). Looked (map root_snap_of l.listing) (count_of l.safe)) c.look.result c.look.ensures.step)
     (of_check_grew s first new
-    (of_check_on s first mid new (went_of_check s first mid IsAny c.read_all.ensures.went) (outcome_of_check s mid new (CheckedAll c.listed_count-snapshots.result c.in-Ok-read_all.blobs) (λ x. HasEnded) c.end_check.result c.requires.alone tt c.end_check.ensures.step)))
+    (of_check_on s first mid new (went_of_check s first mid IsAny c.read_all.ensures.went)
+    (outcome_of_check s mid new (CheckedAll c.listed_count-snapshots.result c.in-Ok-read_all.blobs) (λ x. HasEnded) c.end_check.result c.requires.alone tt c.end_check.ensures.step)))
 
 pub returns-in-Ok-end_check-clause-grew : goal.returns-in-Ok-end_check-clause-grew
 returns-in-Ok-end_check-clause-grew g c = end_grew g (goal.at.returns-in-Ok-end_check-clause-grew g c).After-end_check
@@ -183,7 +190,8 @@ pub returns-clause-refused : goal.returns-clause-refused
 returns-clause-refused g c =
     let s = g.Q.Desk.start in
     let mid = g.Q.Desk.seen c.read_all.new.desk in
-    end_stops c.laws.ensures s (g.Q.Desk.seen c.args.desk.now) mid (g.Q.Desk.seen c.end_check.new.self) c.listed_count-snapshots.result c.in-Ok-read_all.blobs c.in-Err-end_check.refusal c.requires.alone c.in-Ok-read_all.ensures.so_far.alive c.in-Err-end_check.ensures.step
+    end_stops c.laws.ensures s (g.Q.Desk.seen c.args.desk.now) mid (g.Q.Desk.seen c.end_check.new.self) c.listed_count-snapshots.result
+    c.in-Ok-read_all.blobs c.in-Err-end_check.refusal c.requires.alone c.in-Ok-read_all.ensures.so_far.alive c.in-Err-end_check.ensures.step
 
 pub returns-clause-asked : goal.returns-clause-asked
 returns-clause-asked g c =
@@ -194,7 +202,8 @@ returns-clause-asked g c =
     let new = g.Q.Desk.seen c.end_check.new.self in
     asks_stopped Checked old new c.in-Err-end_check.refusal
     (begun_on s old first new (Looked (map root_snap_of c.in-Ok.look.listing) (count_of c.in-Ok.look.safe)) c.requires.alone c.in-Ok.ensures.step
-    (of_check_on s first mid new (went_of_check s first mid IsAny c.read_all.ensures.went) (outcome_of_check s mid new (CheckedAll c.listed_count-snapshots.result c.in-Ok-read_all.blobs) (λ x. HasEnded) c.end_check.result c.requires.alone tt c.end_check.ensures.step)))
+    (of_check_on s first mid new (went_of_check s first mid IsAny c.read_all.ensures.went)
+    (outcome_of_check s mid new (CheckedAll c.listed_count-snapshots.result c.in-Ok-read_all.blobs) (λ x. HasEnded) c.end_check.result c.requires.alone tt c.end_check.ensures.step)))
 
 pub returns-clause-unchecked : goal.returns-clause-unchecked
 returns-clause-unchecked g c =

@@ -30,7 +30,8 @@ check_snaps-requires-clause-new g c κs within =
 
 pub returns-in_err-infos-clause-went : goal.returns-in_err-infos-clause-went
 returns-in_err-infos-clause-went g c =
-    went_both g.Q.Desk.start (g.Q.Desk.seen c.args.desk.now) (g.Q.Desk.seen c.fetch_root.new.desk) (g.Q.Desk.seen c.check_snaps.new.desk) (Just (Root c.args.number)) IsOfAnySnap IsAny (λ name own. tt) (λ name own. tt) c.fetch_root.ensures.went c.check_snaps.ensures.went
+    went_both g.Q.Desk.start (g.Q.Desk.seen c.args.desk.now) (g.Q.Desk.seen c.fetch_root.new.desk) (g.Q.Desk.seen c.check_snaps.new.desk)
+    (Just (Root c.args.number)) IsOfAnySnap IsAny (λ name own. tt) (λ name own. tt) c.fetch_root.ensures.went c.check_snaps.ensures.went
 
 -- ---- the indices
 
@@ -106,6 +107,9 @@ returns-in_err-check_indices-clause-first g c =
     let root = root_of c.in_ok-root.root in
     let infos = map info_of_code c.in_ok-infos.infos in
     passes (FirstOfIndices s (caller_of s new) root (map info_of_code c.as_slice.result.now)) (FirstOf s new) c.from_residual-in_err-check_indices.result c.in_err-check_indices.field-0.0 c.from_residual-in_err-check_indices.ensures.1
-    (λ name first. AtShard root infos (c.args.number, root_on s next new IsOfAnyShard c.args.number root c.check_indices.ensures.went (root_on s (g.Q.Desk.seen c.fetch_root.new.desk) next IsOfAnySnap c.args.number root c.check_snaps.ensures.went c.in_ok-root.ensures.root))
+    (λ name first. AtShard root infos (
+      c.args.number,
+      root_on s next new IsOfAnyShard c.args.number root c.check_indices.ensures.went (root_on s (g.Q.Desk.seen c.fetch_root.new.desk) next IsOfAnySnap c.args.number root c.check_snaps.ensures.went c.in_ok-root.ensures.root),
+    )
     (infos_more s (caller_of s next) (caller_of s new) c.check_indices.ensures.went.grown root root.snapshots infos c.in_ok-infos.ensures.infos)
     (subst (λ (l : List Info). FirstOfIndices s (caller_of s new) root (map info_of_code l) name) c.as_slice.ensures first)) c.in_err-check_indices.ensures.first

@@ -10,9 +10,10 @@ use Rattle.esr_desk.specs.Outcome.{Stepped, fetch_reply}
 use Rattle.esr_desk.specs.Own.{caller_of}
 use Rattle.esr_check.specs.Trouble.{Shown}
 use Rattle.esr_unit.specs.declared.trouble.Trouble.TheVariants.{Step}
+use Rattle.esr_unit.specs.Refusals.{passed_on}
 use Rattle.esr_check.proofs.Going.{outcome_went}
 use Rattle.esr_check.proofs.Counting.{fetch_came, step_told, caller_own, told_own, is_fresh, count_fits, next_so_far, has_come}
-use Rattle.esr_check.proofs.Refusing.{passed, fetch_refused, absent}
+use Rattle.esr_check.proofs.Refusing.{fetch_refused, absent}
 use Rattle.esr_check.specs.First.{TellsOne}
 use Rattle.esr_check.specs.Names.{Just}
 use Rattle.esr_check.proofs.fetch.fetch.Goals.{In-Some}
@@ -33,7 +34,7 @@ returns-in_err-fetch-clause-trouble g c =
     let old = g.Q.Desk.seen c.args.desk.now in
     let new = g.Q.Desk.seen c.fetch.new.self in
     let refusal = c.in_err-fetch.field-0.0 in
-    passed c.from_residual.result (Shown g.Q.Fetch.Counted.faults s new) (Step refusal) c.from_residual.ensures.1
+    passed_on c.from_residual.result (Shown g.Q.Fetch.Counted.faults s new) (Step refusal) c.from_residual.ensures.1
     (fetch_refused c.laws.ensures s old new c.args.count.now (name_of c.args.name) refusal c.requires.alone c.requires.so_far c.in_err-fetch.ensures.step)
 
 pub returns-in_err-fetch-clause-went : goal.returns-in_err-fetch-clause-went
@@ -60,7 +61,8 @@ own_at g c =
     told_own left o c.in-Some.fetch s name (held_at g c).0 (caller_of s old) (caller_of s new) c.in-Some.is (held_at g c).1 (caller_own left s old new name o c.in_ok-fetch.ensures.own)
 
 fits_at : (g : _) (c : In-Some g) → c.args.count.now + 1 < 2 ^ 64
-fits_at g c = count_fits g.Q.Desk.start (g.Q.Desk.seen c.args.desk.now) (g.Q.Desk.seen c.fetch.new.self) c.args.count.now (name_of c.args.name) (held_at g c).0 c.requires.alone (step_at g c) (own_at g c) c.requires.may c.requires.so_far (c.in_ok-fetch.ensures.few c.requires.alone)
+fits_at g c = count_fits g.Q.Desk.start (g.Q.Desk.seen c.args.desk.now) (g.Q.Desk.seen c.fetch.new.self) c.args.count.now (name_of c.args.name)
+    (held_at g c).0 c.requires.alone (step_at g c) (own_at g c) c.requires.may c.requires.so_far (c.in_ok-fetch.ensures.few c.requires.alone)
 
 pub overflow_add-count : goal.overflow_add-count
 overflow_add-count g c =
@@ -71,7 +73,8 @@ pub returns-in-Some-clause-came : goal.returns-in-Some-clause-came
 returns-in-Some-clause-came g c =
     let some = (goal.at.returns-in-Some-clause-came g c).In-Some in
     let sure = fetch_came c.in_ok-fetch.field-0 c.in-Some.fetch (λ f. g.Q.Desk.start.quiet ≡ true → IsTrue (g.Q.Fetch.Fetch.is_sure f)) c.in-Some.is c.in_ok-fetch.ensures.sure in
-    has_come g.Q.Desk.start (g.Q.Desk.seen c.args.desk.now) (g.Q.Desk.seen c.fetch.new.self) c.args.count.now (name_of c.args.name) (held_at g some).0 c.requires.alone (step_at g some) (own_at g some) c.requires.may c.requires.so_far (g.Q.Fetch.Fetch.left c.in-Some.fetch) (g.Q.Fetch.Fetch.is_sure c.in-Some.fetch) (held_at g some).1 sure
+    has_come g.Q.Desk.start (g.Q.Desk.seen c.args.desk.now) (g.Q.Desk.seen c.fetch.new.self) c.args.count.now (name_of c.args.name) (held_at g some).0 c.requires.alone
+    (step_at g some) (own_at g some) c.requires.may c.requires.so_far (g.Q.Fetch.Fetch.left c.in-Some.fetch) (g.Q.Fetch.Fetch.is_sure c.in-Some.fetch) (held_at g some).1 sure
 
 pub returns-in-Some-clause-so_far : goal.returns-in-Some-clause-so_far
 returns-in-Some-clause-so_far g c =
@@ -93,4 +96,4 @@ returns-in-None-clause-went g c =
     outcome_went g.Q.Desk.start (g.Q.Desk.seen c.args.desk.now) (g.Q.Desk.seen c.fetch.new.self) (name_of c.args.name) fetch_reply c.fetch.result c.requires.alone c.fetch.ensures.step
 
 pub returns-in_err-fetch-clause-first : goal.returns-in_err-fetch-clause-first
-returns-in_err-fetch-clause-first g c = passed c.from_residual.result (TellsOne (Just (name_of c.args.name))) (Step c.in_err-fetch.field-0.0) c.from_residual.ensures.1 tt
+returns-in_err-fetch-clause-first g c = passed_on c.from_residual.result (TellsOne (Just (name_of c.args.name))) (Step c.in_err-fetch.field-0.0) c.from_residual.ensures.1 tt

@@ -1,7 +1,8 @@
 use Rattle.esr_depot.specs.Calls.{has_failed}
 use Rattle.esr_formats.specs.Names.{name_of}
+use Rattle.esr_unit.specs.Objects.{is_faulty}
 use Rattle.esr_check.proofs.Counting.{came_whole}
-use Rattle.esr_check.proofs.Refusing.{is_faulty, did_fail}
+use Rattle.esr_check.proofs.Refusing.{did_fail}
 use Rattle.esr_check.proofs.fetch.fetch_whole.Goals as goal
 
 pub returns-in-Ok-clause-fetched : goal.returns-in-Ok-clause-fetched

@@ -34,7 +34,8 @@ check_file-requires-clause-shard g c κs within =
 pub check_file-requires-clause-held : goal.check_file-requires-clause-held
 check_file-requires-clause-held g c κs within =
     let s = g.Q.Desk.start in
-    held_more s (caller_of s (g.Q.Desk.seen c.args.desk.now)) (caller_of s (g.Q.Desk.seen c.loop-entry.desk)) c.loop-entry.invariant.went.grown c.args.shard.at.index.number c.args.shard.at.number c.args.shard.generation.number (shard_index_of c.args.held.now) c.requires.held
+    held_more s (caller_of s (g.Q.Desk.seen c.args.desk.now)) (caller_of s (g.Q.Desk.seen c.loop-entry.desk)) c.loop-entry.invariant.went.grown
+    c.args.shard.at.index.number c.args.shard.at.number c.args.shard.generation.number (shard_index_of c.args.held.now) c.requires.held
 
 pub check_file-requires-clause-entry : goal.check_file-requires-clause-entry
 check_file-requires-clause-entry g c κs within =
@@ -62,7 +63,8 @@ pub returns-in_err-check_file-clause-went : goal.returns-in_err-check_file-claus
 returns-in_err-check_file-clause-went g c =
     let index = c.args.shard.at.index.number in
     let shard = c.args.shard.at.number in
-    any_then g.Q.Desk.start (g.Q.Desk.seen c.args.desk.now) (g.Q.Desk.seen c.loop-entry.desk) (g.Q.Desk.seen c.check_file.new.desk) (FileOf index shard) (IsPieceOf index shard) (map entry_of (take c.loop-entry.entry-index c.files-entry-items.result.now)) (entry_of c.entry-item.result)
+    any_then g.Q.Desk.start (g.Q.Desk.seen c.args.desk.now) (g.Q.Desk.seen c.loop-entry.desk) (g.Q.Desk.seen c.check_file.new.desk) (FileOf index shard)
+    (IsPieceOf index shard) (map entry_of (take c.loop-entry.entry-index c.files-entry-items.result.now)) (entry_of c.entry-item.result)
     (λ e name own. file_in index shard e name own) c.loop-entry.invariant.went c.check_file.ensures.went
 
 pub loop-entry-preserved : goal.loop-entry-preserved
@@ -79,7 +81,8 @@ loop-entry-preserved g c =
     let went = c.check_file.ensures.went in
     record {
       buffer = c.check_file.ensures.buffer ∙ inv.buffer;
-      files = every_more (HasFile s (caller_of s new) index shard) entry_of xs i own c.loop-entry-test.true c.entry-item.is (files_more s (caller_of s mid) (caller_of s new) went.grown index shard (map entry_of (take i xs)) inv.files) c.in_ok-check_file.ensures.file;
+      files = every_more (HasFile s (caller_of s new) index shard) entry_of xs i own c.loop-entry-test.true c.entry-item.is
+          (files_more s (caller_of s mid) (caller_of s new) went.grown index shard (map entry_of (take i xs)) inv.files) c.in_ok-check_file.ensures.file;
       so_far = c.in_ok-check_file.ensures.so_far;
       went = any_next s (g.Q.Desk.seen c.args.desk.now) mid new (FileOf index shard) entry_of xs i own c.loop-entry-test.true c.entry-item.is inv.went went;
     }
@@ -97,7 +100,8 @@ pub returns-clause-went : goal.returns-clause-went
 returns-clause-went g c =
     let index = c.args.shard.at.index.number in
     let shard = c.args.shard.at.number in
-    any_all g.Q.Desk.start (g.Q.Desk.seen c.args.desk.now) (g.Q.Desk.seen c.loop-entry.desk) (FileOf index shard) (IsPieceOf index shard) (map entry_of (take c.loop-entry.entry-index c.files-entry-items.result.now)) (λ e name own. file_in index shard e name own) c.loop-entry.invariant.went
+    any_all g.Q.Desk.start (g.Q.Desk.seen c.args.desk.now) (g.Q.Desk.seen c.loop-entry.desk) (FileOf index shard) (IsPieceOf index shard)
+    (map entry_of (take c.loop-entry.entry-index c.files-entry-items.result.now)) (λ e name own. file_in index shard e name own) c.loop-entry.invariant.went
 
 pub returns-in_err-check_file-clause-first : goal.returns-in_err-check_file-clause-first
 returns-in_err-check_file-clause-first g c =

@@ -29,7 +29,8 @@ loop-index-init g c = record {
 
 pub check_shards-requires-clause-root : goal.check_shards-requires-clause-root
 check_shards-requires-clause-root g c κs within =
-    safe_on g.Q.Desk.start (g.Q.Desk.seen c.args.desk.now) (g.Q.Desk.seen c.loop-index.desk) (Any IndexOf (map root_index_of (take c.loop-index.index-index c.as_slice-index-items.result.now))) (root_of c.args.root.now) c.loop-index.invariant.went c.requires.root
+    safe_on g.Q.Desk.start (g.Q.Desk.seen c.args.desk.now) (g.Q.Desk.seen c.loop-index.desk)
+    (Any IndexOf (map root_index_of (take c.loop-index.index-index c.as_slice-index-items.result.now))) (root_of c.args.root.now) c.loop-index.invariant.went c.requires.root
 
 pub check_shards-requires-clause-infos : goal.check_shards-requires-clause-infos
 check_shards-requires-clause-infos g c κs within =
@@ -59,7 +60,8 @@ check_shards-requires-clause-new g c κs within =
 
 pub returns-in_err-check_shards-clause-went : goal.returns-in_err-check_shards-clause-went
 returns-in_err-check_shards-clause-went g c =
-    any_then g.Q.Desk.start (g.Q.Desk.seen c.args.desk.now) (g.Q.Desk.seen c.loop-index.desk) (g.Q.Desk.seen c.check_shards.new.desk) IndexOf IsOfAnyShard (map root_index_of (take c.loop-index.index-index c.as_slice-index-items.result.now)) (root_index_of c.index-item.result)
+    any_then g.Q.Desk.start (g.Q.Desk.seen c.args.desk.now) (g.Q.Desk.seen c.loop-index.desk) (g.Q.Desk.seen c.check_shards.new.desk) IndexOf IsOfAnyShard
+    (map root_index_of (take c.loop-index.index-index c.as_slice-index-items.result.now)) (root_index_of c.index-item.result)
     (λ x name own. index_any x name own) c.loop-index.invariant.went c.check_shards.ensures.went
 
 pub loop-index-preserved : goal.loop-index-preserved
@@ -76,7 +78,8 @@ loop-index-preserved g c =
     let went = c.check_shards.ensures.went in
     record {
       buffer = c.check_shards.ensures.buffer ∙ inv.buffer;
-      indices = every_more (HasShards s (caller_of s new) root infos) root_index_of xs i own c.loop-index-test.true c.index-item.is (λ x has. shards_more s (caller_of s mid) (caller_of s new) went.grown root infos x (inv.indices x has)) c.in_ok-check_shards.ensures.shards;
+      indices = every_more (HasShards s (caller_of s new) root infos) root_index_of xs i own c.loop-index-test.true c.index-item.is
+          (λ x has. shards_more s (caller_of s mid) (caller_of s new) went.grown root infos x (inv.indices x has)) c.in_ok-check_shards.ensures.shards;
       so_far = c.in_ok-check_shards.ensures.so_far;
       went = any_next s (g.Q.Desk.seen c.args.desk.now) mid new IndexOf root_index_of xs i own c.loop-index-test.true c.index-item.is inv.went went;
     }
@@ -88,11 +91,13 @@ returns-clause-indices g c =
     let root = root_of c.args.root.now in
     let infos = map info_of_code c.args.infos.now in
     let items = c.as_slice-index-items.ensures.items ∙ ap (λ (r : CodeRoot). r.indices) c.root.view_is in
-    subst (λ (xs : List CodeIndex). HasIndices s now root infos (map root_index_of xs)) items (every_all (HasShards s now root infos) root_index_of c.as_slice-index-items.result.now c.loop-index.index-index c.loop-index-test.false c.loop-index.invariant.indices)
+    subst (λ (xs : List CodeIndex). HasIndices s now root infos (map root_index_of xs)) items
+    (every_all (HasShards s now root infos) root_index_of c.as_slice-index-items.result.now c.loop-index.index-index c.loop-index-test.false c.loop-index.invariant.indices)
 
 pub returns-clause-went : goal.returns-clause-went
 returns-clause-went g c =
-    any_all g.Q.Desk.start (g.Q.Desk.seen c.args.desk.now) (g.Q.Desk.seen c.loop-index.desk) IndexOf IsOfAnyShard (map root_index_of (take c.loop-index.index-index c.as_slice-index-items.result.now)) (λ x name own. index_any x name own) c.loop-index.invariant.went
+    any_all g.Q.Desk.start (g.Q.Desk.seen c.args.desk.now) (g.Q.Desk.seen c.loop-index.desk) IndexOf IsOfAnyShard
+    (map root_index_of (take c.loop-index.index-index c.as_slice-index-items.result.now)) (λ x name own. index_any x name own) c.loop-index.invariant.went
 
 pub returns-in_err-check_shards-clause-first : goal.returns-in_err-check_shards-clause-first
 returns-in_err-check_shards-clause-first g c =

@@ -33,7 +33,8 @@ check_listed-requires-clause-shard g c κs within =
 pub check_listed-requires-clause-held : goal.check_listed-requires-clause-held
 check_listed-requires-clause-held g c κs within =
     let s = g.Q.Desk.start in
-    held_more s (caller_of s (g.Q.Desk.seen c.args.desk.now)) (caller_of s (g.Q.Desk.seen c.loop-list.desk)) c.loop-list.invariant.went.grown c.args.shard.at.index.number c.args.shard.at.number c.args.shard.generation.number (shard_index_of c.args.held.now) c.requires.held
+    held_more s (caller_of s (g.Q.Desk.seen c.args.desk.now)) (caller_of s (g.Q.Desk.seen c.loop-list.desk)) c.loop-list.invariant.went.grown
+    c.args.shard.at.index.number c.args.shard.at.number c.args.shard.generation.number (shard_index_of c.args.held.now) c.requires.held
 
 pub check_listed-requires-clause-list : goal.check_listed-requires-clause-list
 check_listed-requires-clause-list g c κs within =
@@ -56,7 +57,8 @@ pub returns-in_err-check_listed-clause-went : goal.returns-in_err-check_listed-c
 returns-in_err-check_listed-clause-went g c =
     let index = c.args.shard.at.index.number in
     let shard = c.args.shard.at.number in
-    any_then g.Q.Desk.start (g.Q.Desk.seen c.args.desk.now) (g.Q.Desk.seen c.loop-list.desk) (g.Q.Desk.seen c.check_listed.new.desk) (ListOf index shard) (IsSnapOf index shard) (map snap_list_of (take c.loop-list.list-index c.snapshots-list-items.result.now)) (snap_list_of c.list-item.result)
+    any_then g.Q.Desk.start (g.Q.Desk.seen c.args.desk.now) (g.Q.Desk.seen c.loop-list.desk) (g.Q.Desk.seen c.check_listed.new.desk) (ListOf index shard)
+    (IsSnapOf index shard) (map snap_list_of (take c.loop-list.list-index c.snapshots-list-items.result.now)) (snap_list_of c.list-item.result)
     (λ l name own. list_in index shard l name own) c.loop-list.invariant.went c.check_listed.ensures.went
 
 pub loop-list-preserved : goal.loop-list-preserved
@@ -97,7 +99,8 @@ pub returns-clause-went : goal.returns-clause-went
 returns-clause-went g c =
     let index = c.args.shard.at.index.number in
     let shard = c.args.shard.at.number in
-    any_all g.Q.Desk.start (g.Q.Desk.seen c.args.desk.now) (g.Q.Desk.seen c.loop-list.desk) (ListOf index shard) (IsSnapOf index shard) (map snap_list_of (take c.loop-list.list-index c.snapshots-list-items.result.now)) (λ l name own. list_in index shard l name own) c.loop-list.invariant.went
+    any_all g.Q.Desk.start (g.Q.Desk.seen c.args.desk.now) (g.Q.Desk.seen c.loop-list.desk) (ListOf index shard) (IsSnapOf index shard)
+    (map snap_list_of (take c.loop-list.list-index c.snapshots-list-items.result.now)) (λ l name own. list_in index shard l name own) c.loop-list.invariant.went
 
 pub returns-in_err-check_listed-clause-first : goal.returns-in_err-check_listed-clause-first
 returns-in_err-check_listed-clause-first g c =
@@ -111,7 +114,8 @@ returns-in_err-check_listed-clause-first g c =
     let held = shard_index_of c.args.held.now in
     let own = snap_list_of c.list-item.result in
     let before = map snap_list_of (take c.loop-list.list-index c.snapshots-list-items.result.now) in
-    let next = subst (λ (ls : List CodeList). IsNext (map snap_list_of ls) before own) c.snapshots-list-items.ensures (next_at snap_list_of c.snapshots-list-items.result.now c.loop-list.list-index c.list-item.result c.loop-list-test.true c.list-item.is) in
+    let next =
+    subst (λ (ls : List CodeList). IsNext (map snap_list_of ls) before own) c.snapshots-list-items.ensures (next_at snap_list_of c.snapshots-list-items.result.now c.loop-list.list-index c.list-item.result c.loop-list-test.true c.list-item.is) in
     passes (Just (ShardSnap index shard own.uuid)) (FirstOfLists s new root infos index shard held) c.from_residual.result c.in_err-check_listed.field-0.0 c.from_residual.ensures.1
     (λ name is. record { before = before; l = own; next = next; agree = lists_more s mid new c.check_listed.ensures.went.grown root infos index shard held before c.loop-list.invariant.lists; names = is })
     c.in_err-check_listed.ensures.first

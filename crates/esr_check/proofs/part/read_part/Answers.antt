@@ -1,11 +1,12 @@
 use Rattle.std.proofs.Common.{subst}
 use Rattle.std.specs.Result.{is_err}
 use Rattle.esr_formats.specs.Names.{name_of}
+use Rattle.esr_unit.specs.Objects.{never_err, is_faulty}
 use Rattle.esr_parts.specs.Back.{HashedBack}
 use Rattle.esr_parts.specs.declared.back.Extent.{Extent}
 use Rattle.esr_parts.specs.declared.back.Extent.TheVariants.{Whole, Short, Long}
 use Rattle.esr_check.proofs.Parting.{part_read}
-use Rattle.esr_check.proofs.Refusing.{is_faulty, never_err, was_err}
+use Rattle.esr_check.proofs.Refusing.{was_err}
 use Rattle.esr_check.proofs.part.read_part.Goals as goal
 
 pub returns-in-Ok-Whole-clause-read : goal.returns-in-Ok-Whole-clause-read

@@ -114,7 +114,8 @@ pub returns-clause-went : goal.returns-clause-went
 returns-clause-went g c =
     let e = c.args.entry.now in
     let at = c.args.shard.at in
-    below_all g.Q.Desk.start (g.Q.Desk.seen c.args.desk.now) (g.Q.Desk.seen c.loop-number.desk) (PartOf at e) (IsOfFile at.index.number at.number e.name.number) c.loop-number.number (λ k name own. part_in at e k name own) c.loop-number.invariant.went
+    below_all g.Q.Desk.start (g.Q.Desk.seen c.args.desk.now) (g.Q.Desk.seen c.loop-number.desk) (PartOf at e)
+    (IsOfFile at.index.number at.number e.name.number) c.loop-number.number (λ k name own. part_in at e k name own) c.loop-number.invariant.went
 
 pub returns-in_err-is_whole-clause-first : goal.returns-in_err-is_whole-clause-first
 returns-in_err-is_whole-clause-first g c =

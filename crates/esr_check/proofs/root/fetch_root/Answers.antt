@@ -31,7 +31,8 @@ returns-in-Ok-clause-rule g c = subst IsRoot c.root.view_is c.root.invariant
 
 pub returns-clause-trouble : goal.returns-clause-trouble
 returns-clause-trouble g c =
-    root_unread g.Q.Fetch.Counted.faults g.Q.Desk.start (g.Q.Desk.seen c.fetch_whole.new.desk) c.in_ok-bytes.bytes c.as_slice.result.now c.in-Err.refusal c.unread.result c.as_slice.ensures c.args.number c.unread.ensures c.in_ok-bytes.ensures.fetched c.in-Err.ensures.reason
+    root_unread g.Q.Fetch.Counted.faults g.Q.Desk.start (g.Q.Desk.seen c.fetch_whole.new.desk) c.in_ok-bytes.bytes c.as_slice.result.now
+    c.in-Err.refusal c.unread.result c.as_slice.ensures c.args.number c.unread.ensures c.in_ok-bytes.ensures.fetched c.in-Err.ensures.reason
 
 pub returns-clause-first : goal.returns-clause-first
 returns-clause-first g c = unread_tells (codes.Root c.args.number) c.in-Err.refusal c.unread.result c.unread.ensures

@@ -47,5 +47,6 @@ returns-in-Some-clause-first g c =
     let infos = map info_of_code c.args.infos.now in
     let index = c.args.at.index.number in
     let shard = c.args.at.number in
-    if_tells (FirstOfShard s (caller_of s (g.Q.Desk.seen c.check_shard.new.desk)) root infos index shard c.in-Some.generation.number) (FirstOfPlace s (caller_of s (g.Q.Desk.seen c.check_shard.new.desk)) root infos index shard (option_map number_of c.args.generation))
+    if_tells (FirstOfShard s (caller_of s (g.Q.Desk.seen c.check_shard.new.desk)) root infos index shard c.in-Some.generation.number)
+    (FirstOfPlace s (caller_of s (g.Q.Desk.seen c.check_shard.new.desk)) root infos index shard (option_map number_of c.args.generation))
     (λ name first. record { generation = c.in-Some.generation.number; is = ap (λ (o : Option Id). option_map number_of o) c.in-Some.is; first = first }) c.check_shard.result c.check_shard.ensures.first

@@ -28,7 +28,8 @@ pub returns-in_err-held-clause-went : goal.returns-in_err-held-clause-went
 returns-in_err-held-clause-went g c =
     let index = c.args.shard.at.index.number in
     let shard = c.args.shard.at.number in
-    went_as g.Q.Desk.start (g.Q.Desk.seen c.args.desk.now) (g.Q.Desk.seen c.check_held.new.desk) (Just (ShardIndex index shard c.args.shard.generation.number)) (IsOfShard index shard) (λ name own. held_of_shard index shard c.args.shard.generation.number name own) c.check_held.ensures.went
+    went_as g.Q.Desk.start (g.Q.Desk.seen c.args.desk.now) (g.Q.Desk.seen c.check_held.new.desk) (Just (ShardIndex index shard c.args.shard.generation.number))
+    (IsOfShard index shard) (λ name own. held_of_shard index shard c.args.shard.generation.number name own) c.check_held.ensures.went
 
 -- it is one of the root still
 held_shard : (g : _) (c : After-check_held g)
@@ -72,7 +73,8 @@ check_files-requires-clause-shard g c κs within =
 pub check_files-requires-clause-held : goal.check_files-requires-clause-held
 check_files-requires-clause-held g c κs within =
     let s = g.Q.Desk.start in
-    held_more s (caller_of s (g.Q.Desk.seen c.check_held.new.desk)) (caller_of s (g.Q.Desk.seen c.check_lists.new.desk)) c.check_lists.ensures.went.grown c.args.shard.at.index.number c.args.shard.at.number c.args.shard.generation.number (shard_index_of c.in_ok-held.held) c.in_ok-held.ensures.read
+    held_more s (caller_of s (g.Q.Desk.seen c.check_held.new.desk)) (caller_of s (g.Q.Desk.seen c.check_lists.new.desk)) c.check_lists.ensures.went.grown
+    c.args.shard.at.index.number c.args.shard.at.number c.args.shard.generation.number (shard_index_of c.in_ok-held.held) c.in_ok-held.ensures.read
 
 pub check_files-requires-clause-new : goal.check_files-requires-clause-new
 check_files-requires-clause-new g c κs within =
@@ -98,7 +100,8 @@ files_went g c =
     let shard = c.args.shard.at.number in
     let generation = c.args.shard.generation.number in
     went_on s old next new (IsOfShard index shard)
-    (went_both s old mid next (Just (ShardIndex index shard generation)) (IsSnapOf index shard) (IsOfShard index shard) (λ name own. held_of_shard index shard generation name own) (λ name own. lists_of_shard index shard name own) c.check_held.ensures.went c.check_lists.ensures.went)
+    (went_both s old mid next (Just (ShardIndex index shard generation)) (IsSnapOf index shard) (IsOfShard index shard)
+    (λ name own. held_of_shard index shard generation name own) (λ name own. lists_of_shard index shard name own) c.check_held.ensures.went c.check_lists.ensures.went)
     (went_as s next new (IsPieceOf index shard) (IsOfShard index shard) (λ name own. files_of_shard index shard name own) c.check_files.ensures.went)
 
 pub returns-in_err-check_files-clause-went : goal.returns-in_err-check_files-clause-went
@@ -144,7 +147,8 @@ returns-in_err-check_lists-clause-first g c =
     let shard = c.args.shard.at.number in
     let generation = c.args.shard.generation.number in
     let held = shard_index_of c.in_ok-held.held in
-    passes (FirstOfLists s new (root_of c.args.shard.root.now) (map info_of_code c.args.shard.infos.now) index shard held) (FirstOfShard s new (root_of c.args.shard.root.now) (map info_of_code c.args.shard.infos.now) index shard generation) c.from_residual-in_err-check_lists.result c.in_err-check_lists.field-0.0 c.from_residual-in_err-check_lists.ensures.1
+    passes (FirstOfLists s new (root_of c.args.shard.root.now) (map info_of_code c.args.shard.infos.now) index shard held)
+    (FirstOfShard s new (root_of c.args.shard.root.now) (map info_of_code c.args.shard.infos.now) index shard generation) c.from_residual-in_err-check_lists.result c.in_err-check_lists.field-0.0 c.from_residual-in_err-check_lists.ensures.1
     (λ name first. AtList held (held_more s mid new c.check_lists.ensures.went.grown index shard generation held c.in_ok-held.ensures.read) c.in_ok-held.ensures.kept first) c.in_err-check_lists.ensures.first
 
 pub returns-in_err-check_files-clause-first : goal.returns-in_err-check_files-clause-first

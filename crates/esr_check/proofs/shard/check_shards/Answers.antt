@@ -57,7 +57,8 @@ check_place-requires-clause-new g c κs within =
 pub returns-in_err-check_place-clause-went : goal.returns-in_err-check_place-clause-went
 returns-in_err-check_place-clause-went g c =
     let index = c.args.index.now.id.number in
-    below_then g.Q.Desk.start (g.Q.Desk.seen c.args.desk.now) (g.Q.Desk.seen c.loop-number.desk) (g.Q.Desk.seen c.check_place.new.desk) (IsOfShard index) (IsOfShards index) c.loop-number.number (λ k name own. shard_in index k name own) c.loop-number.invariant.went c.check_place.ensures.went
+    below_then g.Q.Desk.start (g.Q.Desk.seen c.args.desk.now) (g.Q.Desk.seen c.loop-number.desk) (g.Q.Desk.seen c.check_place.new.desk) (IsOfShard index)
+    (IsOfShards index) c.loop-number.number (λ k name own. shard_in index k name own) c.loop-number.invariant.went c.check_place.ensures.went
 
 pub loop-number-preserved : goal.loop-number-preserved
 loop-number-preserved g c =
@@ -71,7 +72,8 @@ loop-number-preserved g c =
     let went = c.check_place.ensures.went in
     record {
       buffer = c.check_place.ensures.buffer ∙ inv.buffer;
-      shards = first_next s (caller_of s mid) (caller_of s new) (root_of c.args.root.now) (map info_of_code c.args.infos.now) index xs n _ went.grown c.loop-number-test.true (item_is xs n _ c.loop-number-test.true) inv.shards c.in_ok-check_place.ensures.place;
+      shards = first_next s (caller_of s mid) (caller_of s new) (root_of c.args.root.now) (map info_of_code c.args.infos.now) index xs n _ went.grown c.loop-number-test.true
+          (item_is xs n _ c.loop-number-test.true) inv.shards c.in_ok-check_place.ensures.place;
       so_far = c.in_ok-check_place.ensures.so_far;
       went = below_next s (g.Q.Desk.seen c.args.desk.now) mid new (IsOfShard index) n inv.went went;
     }

@@ -24,5 +24,6 @@ returns-then-is_meta_of-clause-meta g c =
 pub returns-clause-trouble : goal.returns-clause-trouble
 returns-clause-trouble g c =
     let s = g.Q.Desk.start in
-    meta_beside s (g.Q.Desk.seen c.args.desk.now) (g.Q.Desk.seen c.fetch_meta.new.desk) (Just (IndexMeta c.args.index.now.id.number c.args.uuid.number)) c.args.uuid.number (info_of_code c.args.info.now) (ref_of_code c.args.index.now) (index_meta_of c.in_ok-meta.meta)
+    meta_beside s (g.Q.Desk.seen c.args.desk.now) (g.Q.Desk.seen c.fetch_meta.new.desk) (Just (IndexMeta c.args.index.now.id.number c.args.uuid.number)) c.args.uuid.number
+    (info_of_code c.args.info.now) (ref_of_code c.args.index.now) (index_meta_of c.in_ok-meta.meta)
     c.fetch_meta.ensures.went c.requires.info c.requires.there c.in_ok-meta.ensures.read (not_so c.is_meta_of.result c.is_meta_of.ensures c.if-is_meta_of.false)

@@ -30,7 +30,8 @@ loop-index-init g c = record {
 pub check_meta-requires-clause-info : goal.check_meta-requires-clause-info
 check_meta-requires-clause-info g c κs within =
     let s = g.Q.Desk.start in
-    read_more s (caller_of s (g.Q.Desk.seen c.args.desk.now)) (caller_of s (g.Q.Desk.seen c.loop-index.desk)) c.loop-index.invariant.went.grown (Snap c.args.snap.listed.now.uuid.number) (formats_of s).info (info_of_code c.args.info.now) c.requires.info
+    read_more s (caller_of s (g.Q.Desk.seen c.args.desk.now)) (caller_of s (g.Q.Desk.seen c.loop-index.desk)) c.loop-index.invariant.went.grown
+    (Snap c.args.snap.listed.now.uuid.number) (formats_of s).info (info_of_code c.args.info.now) c.requires.info
 
 pub check_meta-requires-clause-there : goal.check_meta-requires-clause-there
 check_meta-requires-clause-there g c κs within =
@@ -55,13 +56,15 @@ check_meta-requires-clause-may g c κs within =
     let new =
     next_new s old mid (λ (r : IndexRef). r.id) (MetaOf uuid) ref_of_code xs i own (λ a b name one two. meta_key uuid a b name one two) (refs_once xs rule) c.loop-index-test.true c.index-item.is
     (some_new (caller_of s old) (IsMetaIn uuid) (MetaOf uuid (ref_of_code own)) (λ name same. meta_in uuid (ref_of_code own) name same) c.requires.new) went in
-    can_index_meta s mid c.loop-index.count c.args.snap.number root (root_snap_of c.args.snap.listed.now) c.loop-index.invariant.so_far (root_on s old mid (Any (MetaOf uuid) (map ref_of_code (take i xs))) c.args.snap.number root went c.requires.snap.safe)
+    can_index_meta s mid c.loop-index.count c.args.snap.number root (root_snap_of c.args.snap.listed.now) c.loop-index.invariant.so_far
+    (root_on s old mid (Any (MetaOf uuid) (map ref_of_code (take i xs))) c.args.snap.number root went c.requires.snap.safe)
     (info_of_code c.args.info.now) (ref_of_code own) c.requires.agrees there new
 
 pub returns-in_err-check_meta-clause-went : goal.returns-in_err-check_meta-clause-went
 returns-in_err-check_meta-clause-went g c =
     let uuid = c.args.snap.listed.now.uuid.number in
-    any_then g.Q.Desk.start (g.Q.Desk.seen c.args.desk.now) (g.Q.Desk.seen c.loop-index.desk) (g.Q.Desk.seen c.check_meta.new.desk) (MetaOf uuid) (IsMetaIn uuid) (map ref_of_code (take c.loop-index.index-index c.as_slice-index-items.result.now)) (ref_of_code c.index-item.result)
+    any_then g.Q.Desk.start (g.Q.Desk.seen c.args.desk.now) (g.Q.Desk.seen c.loop-index.desk) (g.Q.Desk.seen c.check_meta.new.desk) (MetaOf uuid)
+    (IsMetaIn uuid) (map ref_of_code (take c.loop-index.index-index c.as_slice-index-items.result.now)) (ref_of_code c.index-item.result)
     (λ r name own. meta_in uuid r name own) c.loop-index.invariant.went c.check_meta.ensures.went
 
 pub loop-index-preserved : goal.loop-index-preserved
@@ -76,7 +79,8 @@ loop-index-preserved g c =
     let inv = c.loop-index.invariant in
     let went = c.check_meta.ensures.went in
     record {
-      metas = every_more (HasMeta s (caller_of s new) uuid) ref_of_code xs i own c.loop-index-test.true c.index-item.is (metas_more s (caller_of s mid) (caller_of s new) went.grown uuid (map ref_of_code (take i xs)) inv.metas) c.in_ok-check_meta.ensures.meta;
+      metas = every_more (HasMeta s (caller_of s new) uuid) ref_of_code xs i own c.loop-index-test.true c.index-item.is
+          (metas_more s (caller_of s mid) (caller_of s new) went.grown uuid (map ref_of_code (take i xs)) inv.metas) c.in_ok-check_meta.ensures.meta;
       so_far = c.in_ok-check_meta.ensures.so_far;
       went = any_next s (g.Q.Desk.seen c.args.desk.now) mid new (MetaOf uuid) ref_of_code xs i own c.loop-index-test.true c.index-item.is inv.went went;
     }
@@ -92,7 +96,8 @@ returns-clause-metas g c =
 pub returns-clause-went : goal.returns-clause-went
 returns-clause-went g c =
     let uuid = c.args.snap.listed.now.uuid.number in
-    any_all g.Q.Desk.start (g.Q.Desk.seen c.args.desk.now) (g.Q.Desk.seen c.loop-index.desk) (MetaOf uuid) (IsMetaIn uuid) (map ref_of_code (take c.loop-index.index-index c.as_slice-index-items.result.now)) (λ r name own. meta_in uuid r name own) c.loop-index.invariant.went
+    any_all g.Q.Desk.start (g.Q.Desk.seen c.args.desk.now) (g.Q.Desk.seen c.loop-index.desk) (MetaOf uuid) (IsMetaIn uuid)
+    (map ref_of_code (take c.loop-index.index-index c.as_slice-index-items.result.now)) (λ r name own. meta_in uuid r name own) c.loop-index.invariant.went
 
 pub returns-in_err-check_meta-clause-first : goal.returns-in_err-check_meta-clause-first
 returns-in_err-check_meta-clause-first g c =
@@ -105,5 +110,11 @@ returns-in_err-check_meta-clause-first g c =
     let before = map ref_of_code (take c.loop-index.index-index xs) in
     let next = subst (λ (rs : List CodeRef). IsNext (map ref_of_code rs) before (ref_of_code own)) items (next_at ref_of_code xs c.loop-index.index-index own c.loop-index-test.true c.index-item.is) in
     passes (Just (IndexMeta own.id.number uuid)) (FirstOfMetas s (caller_of s new) uuid (info_of_code c.args.info.now).indices) c.from_residual.result c.in_err-check_meta.field-0.0 c.from_residual.ensures.1
-    (λ name is. record { before = before; r = ref_of_code own; next = next; agree = metas_more s (caller_of s (g.Q.Desk.seen c.loop-index.desk)) (caller_of s new) c.check_meta.ensures.went.grown uuid before c.loop-index.invariant.metas; names = is })
+    (λ name is. record {
+      before = before;
+      r = ref_of_code own;
+      next = next;
+      agree = metas_more s (caller_of s (g.Q.Desk.seen c.loop-index.desk)) (caller_of s new) c.check_meta.ensures.went.grown uuid before c.loop-index.invariant.metas;
+      names = is;
+    })
     c.in_err-check_meta.ensures.first

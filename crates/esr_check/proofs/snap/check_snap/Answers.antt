@@ -38,7 +38,8 @@ check_global-requires-clause-may g c κs within =
     let mid = g.Q.Desk.seen c.check_info.new.desk in
     let uuid = c.args.snap.listed.now.uuid.number in
     let root = root_of c.args.snap.root.now in
-    can_meta s mid c.check_info.new.count c.args.snap.number root (root_snap_of c.args.snap.listed.now) c.in_ok-info.ensures.so_far (root_on s old mid (Just (Snap uuid)) c.args.snap.number root c.check_info.ensures.went c.requires.snap.safe) c.requires.snap.listed
+    can_meta s mid c.check_info.new.count c.args.snap.number root (root_snap_of c.args.snap.listed.now) c.in_ok-info.ensures.so_far
+    (root_on s old mid (Just (Snap uuid)) c.args.snap.number root c.check_info.ensures.went c.requires.snap.safe) c.requires.snap.listed
     (still_new s old mid (Just (Snap uuid)) (Just (Meta uuid)) (λ name own other. global_no_info uuid name own other)
     (some_new (caller_of s old) (IsOfSnap uuid) (Just (Meta uuid)) (λ name own. global_of_snap uuid name own) c.requires.new) c.check_info.ensures.went)
 
@@ -62,7 +63,8 @@ check_metas-requires-clause-snap g c κs within =
 pub check_metas-requires-clause-info : goal.check_metas-requires-clause-info
 check_metas-requires-clause-info g c κs within =
     let s = g.Q.Desk.start in
-    read_more s (caller_of s (g.Q.Desk.seen c.check_info.new.desk)) (caller_of s (g.Q.Desk.seen c.check_global.new.desk)) c.check_global.ensures.went.grown (Snap c.args.snap.listed.now.uuid.number) (formats_of s).info (info_of_code c.in_ok-info.info) c.in_ok-info.ensures.read
+    read_more s (caller_of s (g.Q.Desk.seen c.check_info.new.desk)) (caller_of s (g.Q.Desk.seen c.check_global.new.desk)) c.check_global.ensures.went.grown
+    (Snap c.args.snap.listed.now.uuid.number) (formats_of s).info (info_of_code c.in_ok-info.info) c.in_ok-info.ensures.read
 
 pub check_metas-requires-clause-new : goal.check_metas-requires-clause-new
 check_metas-requires-clause-new g c κs within =
@@ -96,7 +98,8 @@ returns-clause-went g c = metas_went g (goal.at.returns-clause-went g c).After-c
 pub returns-clause-info : goal.returns-clause-info
 returns-clause-info g c =
     let uuid = c.args.snap.listed.now.uuid.number in
-    has_info g.Q.Desk.start (g.Q.Desk.seen c.check_info.new.desk) (g.Q.Desk.seen c.check_global.new.desk) (g.Q.Desk.seen c.check_metas.new.desk) (root_of c.args.snap.root.now) (root_snap_of c.args.snap.listed.now) (info_of_code c.in_ok-info.info) (Just (Meta uuid)) (IsMetaIn uuid)
+    has_info g.Q.Desk.start (g.Q.Desk.seen c.check_info.new.desk) (g.Q.Desk.seen c.check_global.new.desk) (g.Q.Desk.seen c.check_metas.new.desk)
+    (root_of c.args.snap.root.now) (root_snap_of c.args.snap.listed.now) (info_of_code c.in_ok-info.info) (Just (Meta uuid)) (IsMetaIn uuid)
     c.check_global.ensures.went c.check_metas.ensures.went c.in_ok-info.ensures.read c.in_ok-info.ensures.agrees c.in_ok-check_global.ensures.read c.in_ok-check_metas.ensures.metas
 
 -- ---- the first that is damaged
@@ -104,7 +107,8 @@ returns-clause-info g c =
 pub returns-in_err-info-clause-first : goal.returns-in_err-info-clause-first
 returns-in_err-info-clause-first g c =
     let s = g.Q.Desk.start in
-    passes (Just (Snap c.args.snap.listed.now.uuid.number)) (FirstOfSnap s (caller_of s (g.Q.Desk.seen c.check_info.new.desk)) (root_of c.args.snap.root.now) (root_snap_of c.args.snap.listed.now)) c.from_residual.result c.in_err-info.field-0.0 c.from_residual.ensures.1
+    passes (Just (Snap c.args.snap.listed.now.uuid.number))
+    (FirstOfSnap s (caller_of s (g.Q.Desk.seen c.check_info.new.desk)) (root_of c.args.snap.root.now) (root_snap_of c.args.snap.listed.now)) c.from_residual.result c.in_err-info.field-0.0 c.from_residual.ensures.1
     (λ name is. AtInfo is) c.in_err-info.ensures.first
 
 pub returns-in_err-check_global-clause-first : goal.returns-in_err-check_global-clause-first
@@ -125,7 +129,8 @@ returns-in_err-check_metas-clause-first g c =
     let new = caller_of s (g.Q.Desk.seen c.check_metas.new.desk) in
     let uuid = c.args.snap.listed.now.uuid.number in
     let info = info_of_code c.in_ok-info.info in
-    passes (FirstOfMetas s new uuid info.indices) (FirstOfSnap s new (root_of c.args.snap.root.now) (root_snap_of c.args.snap.listed.now)) c.from_residual-in_err-check_metas.result c.in_err-check_metas.field-0.0 c.from_residual-in_err-check_metas.ensures.1
+    passes (FirstOfMetas s new uuid info.indices) (FirstOfSnap s new (root_of c.args.snap.root.now) (root_snap_of c.args.snap.listed.now))
+    c.from_residual-in_err-check_metas.result c.in_err-check_metas.field-0.0 c.from_residual-in_err-check_metas.ensures.1
     (λ name first. AtMeta info
     (read_more s next new c.check_metas.ensures.went.grown (Snap uuid) (formats_of s).info info (read_more s mid next c.check_global.ensures.went.grown (Snap uuid) (formats_of s).info info c.in_ok-info.ensures.read)) c.in_ok-info.ensures.agrees
     (read_more s next new c.check_metas.ensures.went.grown (Meta uuid) (formats_of s).global (global_of info) c.in_ok-check_global.ensures.read) first) c.in_err-check_metas.ensures.first

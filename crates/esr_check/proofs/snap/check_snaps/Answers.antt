@@ -8,13 +8,13 @@ use Rattle.esr_model.specs.Values.{Has, RootSnap}
 use Rattle.esr_formats.specs.Infos.{info_of_code}
 use Rattle.esr_formats.specs.Roots.{root_of, root_snap_of}
 use Rattle.esr_desk.specs.Own.{caller_of}
+use Rattle.esr_unit.specs.Objects.{on_ok}
 use Rattle.esr_reach.specs.OnceEach.{snaps_once}
 use Rattle.esr_check.specs.Names.{IsOfAnySnap}
 use Rattle.esr_check.specs.Pieces.{HasInfosOf}
 use Rattle.esr_check.proofs.Going.{went_none, some_new, root_on, infos_more}
 use Rattle.esr_check.proofs.Listing.{Any, next_new, any_next, any_all, any_then}
 use Rattle.esr_check.proofs.Naming.{SnapOf, snap_key, snap_any}
-use Rattle.esr_check.proofs.Refusing.{on_ok}
 use Rattle.esr_check.proofs.Snapping.{infos_next}
 use Rattle.esr_check.specs.First.{IsNext, FirstOfSnap, FirstOfSnaps}
 use Rattle.esr_check.proofs.Telling.{passes, next_at}
@@ -32,7 +32,8 @@ check_snap-requires-clause-snap g c κs within =
     let own = root_snap_of c.snap-item.result in
     let items = c.as_slice-snap-items.ensures.items ∙ ap (λ (r : CodeRoot). r.snapshots) c.root.view_is in
     record {
-      safe = root_on g.Q.Desk.start (g.Q.Desk.seen c.args.desk.now) (g.Q.Desk.seen c.loop-snap.desk) (Any SnapOf (map root_snap_of (take c.loop-snap.snap-index c.as_slice-snap-items.result.now))) c.args.number (root_of c.args.root.now) c.loop-snap.invariant.went c.requires.root;
+      safe = root_on g.Q.Desk.start (g.Q.Desk.seen c.args.desk.now) (g.Q.Desk.seen c.loop-snap.desk)
+          (Any SnapOf (map root_snap_of (take c.loop-snap.snap-index c.as_slice-snap-items.result.now))) c.args.number (root_of c.args.root.now) c.loop-snap.invariant.went c.requires.root;
       listed = subst (λ (ss : List CodeSnap). Has (map root_snap_of ss) own) items (has_at root_snap_of c.as_slice-snap-items.result.now c.loop-snap.snap-index c.snap-item.result c.loop-snap-test.true c.snap-item.is);
     }
 
@@ -48,12 +49,14 @@ check_snap-requires-clause-new g c κs within =
 
 pub returns-in_err-info-clause-went : goal.returns-in_err-info-clause-went
 returns-in_err-info-clause-went g c =
-    any_then g.Q.Desk.start (g.Q.Desk.seen c.args.desk.now) (g.Q.Desk.seen c.loop-snap.desk) (g.Q.Desk.seen c.check_snap.new.desk) SnapOf IsOfAnySnap (map root_snap_of (take c.loop-snap.snap-index c.as_slice-snap-items.result.now)) (root_snap_of c.snap-item.result)
+    any_then g.Q.Desk.start (g.Q.Desk.seen c.args.desk.now) (g.Q.Desk.seen c.loop-snap.desk) (g.Q.Desk.seen c.check_snap.new.desk) SnapOf IsOfAnySnap
+    (map root_snap_of (take c.loop-snap.snap-index c.as_slice-snap-items.result.now)) (root_snap_of c.snap-item.result)
     (λ snap name own. snap_any snap name own) c.loop-snap.invariant.went c.check_snap.ensures.went
 
 pub returns-then-is_err-clause-went : goal.returns-then-is_err-clause-went
 returns-then-is_err-clause-went g c =
-    any_then g.Q.Desk.start (g.Q.Desk.seen c.args.desk.now) (g.Q.Desk.seen c.loop-snap.desk) (g.Q.Desk.seen c.check_snap.new.desk) SnapOf IsOfAnySnap (map root_snap_of (take c.loop-snap.snap-index c.as_slice-snap-items.result.now)) (root_snap_of c.snap-item.result)
+    any_then g.Q.Desk.start (g.Q.Desk.seen c.args.desk.now) (g.Q.Desk.seen c.loop-snap.desk) (g.Q.Desk.seen c.check_snap.new.desk) SnapOf IsOfAnySnap
+    (map root_snap_of (take c.loop-snap.snap-index c.as_slice-snap-items.result.now)) (root_snap_of c.snap-item.result)
     (λ snap name own. snap_any snap name own) c.loop-snap.invariant.went c.check_snap.ensures.went
 
 pub loop-snap-preserved : goal.loop-snap-preserved
@@ -87,7 +90,8 @@ returns-clause-infos g c =
 
 pub returns-clause-went : goal.returns-clause-went
 returns-clause-went g c =
-    any_all g.Q.Desk.start (g.Q.Desk.seen c.args.desk.now) (g.Q.Desk.seen c.loop-snap.desk) SnapOf IsOfAnySnap (map root_snap_of (take c.loop-snap.snap-index c.as_slice-snap-items.result.now)) (λ snap name own. snap_any snap name own) c.loop-snap.invariant.went
+    any_all g.Q.Desk.start (g.Q.Desk.seen c.args.desk.now) (g.Q.Desk.seen c.loop-snap.desk) SnapOf IsOfAnySnap
+    (map root_snap_of (take c.loop-snap.snap-index c.as_slice-snap-items.result.now)) (λ snap name own. snap_any snap name own) c.loop-snap.invariant.went
 
 pub returns-in_err-info-clause-first : goal.returns-in_err-info-clause-first
 returns-in_err-info-clause-first g c =

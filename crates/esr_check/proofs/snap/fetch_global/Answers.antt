@@ -19,7 +19,8 @@ returns-in-Ok-clause-read g c =
 
 pub returns-clause-trouble : goal.returns-clause-trouble
 returns-clause-trouble g c =
-    global_unread g.Q.Fetch.Counted.faults g.Q.Desk.start (g.Q.Desk.seen c.fetch_whole.new.desk) c.in_ok-bytes.bytes c.as_slice.result.now c.in-Err.refusal c.unread.result c.as_slice.ensures c.args.uuid c.unread.ensures c.in_ok-bytes.ensures.fetched c.in-Err.ensures.reason
+    global_unread g.Q.Fetch.Counted.faults g.Q.Desk.start (g.Q.Desk.seen c.fetch_whole.new.desk) c.in_ok-bytes.bytes c.as_slice.result.now
+    c.in-Err.refusal c.unread.result c.as_slice.ensures c.args.uuid c.unread.ensures c.in_ok-bytes.ensures.fetched c.in-Err.ensures.reason
 
 pub returns-clause-first : goal.returns-clause-first
 returns-clause-first g c = unread_tells (codes.Meta c.args.uuid) c.in-Err.refusal c.unread.result c.unread.ensures

@@ -15,11 +15,13 @@ fetch_whole-requires-clause-may g c κs within = c.requires.may
 pub returns-in-Ok-clause-read : goal.returns-in-Ok-clause-read
 returns-in-Ok-clause-read g c =
     let s = g.Q.Desk.start in
-    as_index_meta s (caller_of s (g.Q.Desk.seen c.fetch_whole.new.desk)) (IndexMeta c.args.index.number c.args.uuid.number) c.in_ok-bytes.bytes c.as_slice.result.now c.as_slice.ensures c.in_ok-bytes.ensures.fetched (index_meta_of c.in-Ok.meta) c.in-Ok.ensures.read
+    as_index_meta s (caller_of s (g.Q.Desk.seen c.fetch_whole.new.desk))
+    (IndexMeta c.args.index.number c.args.uuid.number) c.in_ok-bytes.bytes c.as_slice.result.now c.as_slice.ensures c.in_ok-bytes.ensures.fetched (index_meta_of c.in-Ok.meta) c.in-Ok.ensures.read
 
 pub returns-clause-trouble : goal.returns-clause-trouble
 returns-clause-trouble g c =
-    meta_unread g.Q.Fetch.Counted.faults g.Q.Desk.start (g.Q.Desk.seen c.fetch_whole.new.desk) c.in_ok-bytes.bytes c.as_slice.result.now c.in-Err.refusal c.unread.result c.as_slice.ensures c.args.index c.args.uuid c.unread.ensures c.in_ok-bytes.ensures.fetched c.in-Err.ensures.reason
+    meta_unread g.Q.Fetch.Counted.faults g.Q.Desk.start (g.Q.Desk.seen c.fetch_whole.new.desk) c.in_ok-bytes.bytes c.as_slice.result.now
+    c.in-Err.refusal c.unread.result c.as_slice.ensures c.args.index c.args.uuid c.unread.ensures c.in_ok-bytes.ensures.fetched c.in-Err.ensures.reason
 
 pub returns-clause-first : goal.returns-clause-first
 returns-clause-first g c = unread_tells (codes.IndexMeta c.args.index c.args.uuid) c.in-Err.refusal c.unread.result c.unread.ensures

@@ -9,10 +9,11 @@ use Rattle.esr_desk.specs.Start.{ticket_of}
 use Rattle.esr_desk.specs.Grew.{grew_by_on, outcome_grew_by}
 use Rattle.esr_desk.specs.Told.{draw_fresh, draw_tells}
 use Rattle.esr_unit.specs.declared.trouble.Trouble.TheVariants.{Step}
+use Rattle.esr_unit.specs.Refusals.{passed_on}
 use Rattle.esr_upload.specs.Trouble.{Shown}
 use Rattle.esr_upload.specs.Worked.{Went}
 use Rattle.esr_upload.specs.Runs.{went_on, went_same, drew_went}
-use Rattle.esr_upload.specs.Ends.{done_on, if_err, passed, step_shown}
+use Rattle.esr_upload.specs.Ends.{done_on, if_err, step_shown}
 use Rattle.esr_clone.specs.Copied.{IsCopy}
 use Rattle.esr_clone.proofs.Copying.{snap_copy, undrawn, can_draw, has_read}
 use Rattle.esr_clone.proofs.unit.work.Goals as goal
@@ -63,7 +64,7 @@ base_of-requires-clause-base g c κs within = (copy_at g (goal.at.base_of-requir
 pub returns-in_err-index-clause-trouble : goal.returns-in_err-index-clause-trouble
 returns-in_err-index-clause-trouble g c =
     let e = evidence g.Q.Stage.Counted.faults g.Q.Fetch.Counted.faults g.Q.Shard.Counted.faults g.Q.Target.Counted.faults g.Q.Shard.Shard.told g.Q.Target.Target.told in
-    passed c.from_residual-in_err-index.result (Shown e 0 (Some []) g.Q.Desk.start (g.Q.Desk.seen c.base_of.new.desk) c.args.ticket) c.in_err-index.field-0.0 c.from_residual-in_err-index.ensures.1 c.in_err-index.ensures.trouble
+    passed_on c.from_residual-in_err-index.result (Shown e 0 (Some []) g.Q.Desk.start (g.Q.Desk.seen c.base_of.new.desk) c.args.ticket) c.in_err-index.field-0.0 c.from_residual-in_err-index.ensures.1 c.in_err-index.ensures.trouble
 
 pub returns-in_err-index-clause-went : goal.returns-in_err-index-clause-went
 returns-in_err-index-clause-went g c =
@@ -99,7 +100,7 @@ returns-in_err-first-clause-trouble g c =
     let e = evidence g.Q.Stage.Counted.faults g.Q.Fetch.Counted.faults g.Q.Shard.Counted.faults g.Q.Target.Counted.faults g.Q.Shard.Shard.told g.Q.Target.Target.told in
     let copy = copy_at g (goal.at.returns-in_err-first-clause-trouble g c).In_ok-snap in
     let work = ap (λ (t : Ticket). t.work) (c.in_err-first.ensures.kept ∙ c.in_ok-index.ensures.based.has_base.is) ∙ copy.at.work in
-    passed c.from_residual-in_err-first.result (Shown e 0 (Some []) s new who) (Step refusal) c.from_residual-in_err-first.ensures.1
+    passed_on c.from_residual-in_err-first.result (Shown e 0 (Some []) s new who) (Step refusal) c.from_residual-in_err-first.ensures.1
     (step_shown e 0 (Some []) s mid new who c.args.at.index.number c.args.at.number work (DrawStep 1) refusal c.refusals_are_of_their_steps.ensures tt (λ swap. swap) c.in_err-first.ensures.step)
 
 pub returns-in_err-first-clause-went : goal.returns-in_err-first-clause-went
@@ -131,12 +132,13 @@ copy-requires-clause-read g c κs within =
 pub copy-requires-clause-tells : goal.copy-requires-clause-tells
 copy-requires-clause-tells g c κs within =
     let first = c.in_ok-first.first.number in
-    draw_tells g.Q.Desk.start (g.Q.Desk.seen c.base_of.new.desk) (g.Q.Desk.seen c.draw.new.self) c.args.ticket first 1 (DrawnFrom first) c.requires.mine.some c.in_ok-index.ensures.tells c.in_ok-first.ensures.step c.in_ok-first.ensures.own (λ none. omega (arith, none))
+    draw_tells g.Q.Desk.start (g.Q.Desk.seen c.base_of.new.desk) (g.Q.Desk.seen c.draw.new.self) c.args.ticket first 1
+    (DrawnFrom first) c.requires.mine.some c.in_ok-index.ensures.tells c.in_ok-first.ensures.step c.in_ok-first.ensures.own (λ none. omega (arith, none))
 
 pub returns-in_err-copy-clause-trouble : goal.returns-in_err-copy-clause-trouble
 returns-in_err-copy-clause-trouble g c =
     let e = evidence g.Q.Stage.Counted.faults g.Q.Fetch.Counted.faults g.Q.Shard.Counted.faults g.Q.Target.Counted.faults g.Q.Shard.Shard.told g.Q.Target.Target.told in
-    passed c.from_residual-in_err-copy.result (Shown e 0 (Some []) g.Q.Desk.start (g.Q.Desk.seen c.copy.new.desk) c.args.ticket) c.in_err-copy.field-0.0 c.from_residual-in_err-copy.ensures.1 c.in_err-copy.ensures.trouble
+    passed_on c.from_residual-in_err-copy.result (Shown e 0 (Some []) g.Q.Desk.start (g.Q.Desk.seen c.copy.new.desk) c.args.ticket) c.in_err-copy.field-0.0 c.from_residual-in_err-copy.ensures.1 c.in_err-copy.ensures.trouble
 
 pub returns-in_err-copy-clause-went : goal.returns-in_err-copy-clause-went
 returns-in_err-copy-clause-went g c =

@@ -39,4 +39,5 @@ returns-clause-answered c = answered (laws (goal.at.returns-clause-answered c).A
 pub returns-clause-ends : goal.returns-clause-ends
 returns-clause-ends c = λ s log lines moment run.
     let core : Laws = laws (goal.at.returns-clause-ends c).After-each_history_tracks_restores in
-    ends_well lines (entries_of log) (facts core lines s log run.smooth run.units run.deletes run.restores run.by_rule run.idle (asks_all s log lines moment run.smooth run.units run.by_rule run.asked)) (short_told log run.short) (answered core s log lines moment run)
+    ends_well lines (entries_of log) (facts core lines s log run.smooth run.units run.deletes run.restores run.by_rule run.idle (asks_all s log lines moment run.smooth run.units run.by_rule run.asked))
+    (short_told log run.short) (answered core s log lines moment run)

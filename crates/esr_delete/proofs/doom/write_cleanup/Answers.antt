@@ -11,11 +11,11 @@ use Rattle.esr_desk.specs.Evidence.{evidence}
 use Rattle.esr_desk.specs.Listing.{page_of}
 use Rattle.esr_desk.specs.Start.{formats_of, ticket_of}
 use Rattle.esr_unit.specs.Shown.{Shown}
+use Rattle.esr_unit.specs.Refusals.{passed_on}
 use Rattle.esr_finish.specs.Runs.{taken_on}
 use Rattle.esr_delete.specs.Ticket.{IsRooted, IsReady}
 use Rattle.esr_delete.specs.Listing.{IsLister}
 use Rattle.esr_delete.proofs.Cleaning.{places_once, each_now, names_doomed}
-use Rattle.esr_delete.proofs.Going.{passed}
 use Rattle.esr_delete.proofs.Listing.{lists_next, root_still, lists_on}
 use Rattle.esr_delete.proofs.Preparing.{cleanup_ready, went_none, went_then_put}
 use Rattle.esr_delete.proofs.doom.write_cleanup.Goals as goal
@@ -54,7 +54,7 @@ list_unreached-requires-clause-may g c κs within = lister_at g (goal.at.list_un
 pub returns-in_err-listed-clause-trouble : goal.returns-in_err-listed-clause-trouble
 returns-in_err-listed-clause-trouble g c =
     let e = evidence g.Q.Stage.Counted.faults g.Q.Fetch.Counted.faults g.Q.Shard.Counted.faults g.Q.Target.Counted.faults g.Q.Shard.Shard.told g.Q.Target.Target.told in
-    passed c.from_residual-in_err-listed.result (Shown hands.Delete e ⊥ g.Q.Desk.start (g.Q.Desk.seen c.list_unreached.new.desk) c.args.ticket) c.in_err-listed.field-0.0 c.from_residual-in_err-listed.ensures.1 c.in_err-listed.ensures.trouble
+    passed_on c.from_residual-in_err-listed.result (Shown hands.Delete e ⊥ g.Q.Desk.start (g.Q.Desk.seen c.list_unreached.new.desk) c.args.ticket) c.in_err-listed.field-0.0 c.from_residual-in_err-listed.ensures.1 c.in_err-listed.ensures.trouble
 
 -- ---- its root
 
@@ -81,7 +81,8 @@ write_root-requires-clause-untried g c κs within = ap (λ (t : Ticket). t.tried
 pub returns-in_err-generation-clause-trouble : goal.returns-in_err-generation-clause-trouble
 returns-in_err-generation-clause-trouble g c =
     let e = evidence g.Q.Stage.Counted.faults g.Q.Fetch.Counted.faults g.Q.Shard.Counted.faults g.Q.Target.Counted.faults g.Q.Shard.Shard.told g.Q.Target.Target.told in
-    passed c.from_residual-in_err-generation.result (Shown hands.Delete e ⊥ g.Q.Desk.start (g.Q.Desk.seen c.write_root.new.desk) c.args.ticket) c.in_err-generation.field-0.0 c.from_residual-in_err-generation.ensures.1 c.in_err-generation.ensures.trouble
+    passed_on c.from_residual-in_err-generation.result (Shown hands.Delete e ⊥ g.Q.Desk.start (g.Q.Desk.seen c.write_root.new.desk) c.args.ticket)
+    c.in_err-generation.field-0.0 c.from_residual-in_err-generation.ensures.1 c.in_err-generation.ensures.trouble
 
 pub returns-in_err-generation-clause-went : goal.returns-in_err-generation-clause-went
 returns-in_err-generation-clause-went g c =

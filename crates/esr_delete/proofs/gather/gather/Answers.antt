@@ -63,10 +63,12 @@ loop-shard-preserved g c =
     let item = get_or items k no_shard in
     let p = pruned_of item in
     let less = c.loop-shard-test.true in
-    let there = there_in (root_of c.args.root.now) (ticket_of s old who).root (map pruned_of c.in_ok-shards.shards) p c.requires.may.root_is c.in_ok-shards.ensures.of_root (shard_in items c.in_ok-shards.shards k c.as_slice-shard-items.ensures less) in
+    let there =
+    there_in (root_of c.args.root.now) (ticket_of s old who).root (map pruned_of c.in_ok-shards.shards) p c.requires.may.root_is c.in_ok-shards.ensures.of_root (shard_in items c.in_ok-shards.shards k c.as_slice-shard-items.ensures less) in
     let more =
     more_so_far s old (g.Q.Desk.seen c.loop-shard.desk) new who (map pruned_of (take k items)) c.loop-shard.held c.insert.new.self p (shard_index_of c.in_ok-index.index) c.loop-shard.invariant.so_far there
-    (apart_at (root_of c.args.root.now) items c.in_ok-shards.shards k c.as_slice-shard-items.ensures c.in_ok-shards.ensures.of_root less) c.in_ok-index.ensures.fetched c.fetch_index.ensures.made c.fetch_index.ensures.read c.fetch_index.ensures.grew c.in_ok-insert.ensures.ok in
+    (apart_at (root_of c.args.root.now) items c.in_ok-shards.shards k c.as_slice-shard-items.ensures c.in_ok-shards.ensures.of_root less) c.in_ok-index.ensures.fetched
+    c.fetch_index.ensures.made c.fetch_index.ensures.read c.fetch_index.ensures.grew c.in_ok-insert.ensures.ok in
     record {
       so_far = subst (λ (shards : List PrunedShard). IsSoFar s old new who shards c.insert.new.self) (sym (next pruned_of items k item less (item_is items k no_shard less))) more;
       calls = c.fetch_index.ensures.calls ∙ c.loop-shard.invariant.calls;

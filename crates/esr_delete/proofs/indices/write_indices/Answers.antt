@@ -43,7 +43,8 @@ write_shard-requires-clause-few g c κs within =
 
 pub write_shard-requires-clause-room : goal.write_shard-requires-clause-room
 write_shard-requires-clause-room g c κs within =
-    has_room c.as_slice-shard-items.result.now c.args.draft.now.shards c.args.draft.now.first.number c.loop-shard.shard-index c.loop-shard.next.number c.as_slice-shard-items.ensures c.loop-shard-test.true c.loop-shard.invariant.next c.requires.may.draft.range
+    has_room c.as_slice-shard-items.result.now c.args.draft.now.shards c.args.draft.now.first.number c.loop-shard.shard-index
+    c.loop-shard.next.number c.as_slice-shard-items.ensures c.loop-shard-test.true c.loop-shard.invariant.next c.requires.may.draft.range
 
 pub write_shard-requires-clause-may : goal.write_shard-requires-clause-may
 write_shard-requires-clause-may g c κs within =
@@ -74,7 +75,8 @@ loop-shard-preserved g c =
     let first = c.args.draft.now.first.number in
     let before = map pruned_of (take k items) in
     let left = map number_of c.left.inside.items.items in
-    let own = notes_as s (ticket_of s mid who) (ticket_of s new who) (formats_of s) (ticket_of s mid who).read (map number_of c.in_ok-left.left) left c.loop-shard.next.number (pruned_of item ∷ []) (sym (ap (map number_of) c.left.view_is)) c.in_ok-next.ensures.ok in
+    let own = notes_as s (ticket_of s mid who) (ticket_of s new who) (formats_of s) (ticket_of s mid who).read
+    (map number_of c.in_ok-left.left) left c.loop-shard.next.number (pruned_of item ∷ []) (sym (ap (map number_of) c.left.view_is)) c.in_ok-next.ensures.ok in
     let more = next pruned_of items k item c.loop-shard-test.true (item_is items k no_shard c.loop-shard-test.true) in
     record {
       notes = notes_more s (ticket_of s old who) (ticket_of s mid who) (ticket_of s new who) items k first c.loop-shard.next.number left item more c.loop-shard.invariant.next c.loop-shard.invariant.notes own;

@@ -24,7 +24,8 @@ write_index-requires-clause-may g c κs within =
     let p = pruned_of c.args.shard.now in
     let left = map number_of c.args.uuids.now in
     let files = shard_index_of c.in-Some.index.now in
-    may_store s t c.args.held.now left p c.args.id.number files c.requires.may (is_own s t c.args.held.now left p c.args.id.number c.requires.may c.in-Some.index.now (sym (ap (option_map shard_index_of) (ap option_copied c.in-Some.is)) ∙ c.get.ensures)) c.if-not-shard.false
+    may_store s t c.args.held.now left p c.args.id.number files c.requires.may
+    (is_own s t c.args.held.now left p c.args.id.number c.requires.may c.in-Some.index.now (sym (ap (option_map shard_index_of) (ap option_copied c.in-Some.is)) ∙ c.get.ensures)) c.if-not-shard.false
 
 pub write_index-requires-clause-new : goal.write_index-requires-clause-new
 write_index-requires-clause-new g c κs within = c.requires.may.new c.if-not-shard.false

@@ -15,8 +15,9 @@ use Rattle.esr_desk.specs.Start.{ticket_of}
 use Rattle.esr_desk.specs.Told.{TellsAll, list_fresh, list_tells}
 use Rattle.esr_unit.specs.declared.trouble.Trouble.TheVariants.{Step}
 use Rattle.esr_unit.specs.Shown.{Shown}
+use Rattle.esr_unit.specs.Refusals.{passed_on}
 use Rattle.esr_finish.specs.Runs.{taken_on}
-use Rattle.esr_delete.proofs.Going.{passed, list_shown}
+use Rattle.esr_delete.proofs.Going.{list_shown}
 use Rattle.esr_delete.proofs.Listing.{HasListed, last_next, has_some, none_listed, can_list, more_listed, more_found, longer, went_listed, lists_on}
 use Rattle.esr_delete.proofs.list.list_unreached.Goals as goal
 use Rattle.esr_delete.proofs.list.list_unreached.Goals.{In_ok-next}
@@ -44,7 +45,8 @@ next_tells g c =
     let who = c.args.ticket in
     let inv = c.loop-left.invariant in
     let t = ticket_of s (seen c.args.desk.now) who in
-    let from : option_copied c.last_name-last.result ≡ last_text (ticket_of s (seen c.loop-left.desk) who).listed = c.last_name-last.ensures ∙ ap (λ (l : List Listed). last_text (page_of l)) c.as_slice.ensures ∙ c.loop-left.invariant.last ∙ sym (ap (λ u. last_text u.listed) inv.is) in
+    let from : option_copied c.last_name-last.result ≡ last_text (ticket_of s (seen c.loop-left.desk) who).listed =
+    c.last_name-last.ensures ∙ ap (λ (l : List Listed). last_text (page_of l)) c.as_slice.ensures ∙ c.loop-left.invariant.last ∙ sym (ap (λ u. last_text u.listed) inv.is) in
     list_tells s (seen c.loop-left.desk) (seen c.list.new.self) who (option_copied c.last_name-last.result) (page_of c.in_ok-next.next) c.requires.mine.some inv.tells (ap (λ u. u.whole) inv.is) from
     c.in_ok-next.ensures.step c.in_ok-next.ensures.page c.in_ok-next.ensures.own
 
@@ -73,7 +75,8 @@ list-requires-clause-may g c =
     let s = g.Q.Desk.start in
     let who = c.args.ticket in
     let inv = c.loop-left.invariant in
-    can_list (ticket_of s (g.Q.Desk.seen c.args.desk.now) who) (ticket_of s (g.Q.Desk.seen c.loop-left.desk) who) inv.pages (option_copied c.last_name-last.result) c.requires.may inv.is (c.last_name-last.ensures ∙ ap (λ (l : List Listed). last_text (page_of l)) c.as_slice.ensures ∙ c.loop-left.invariant.last)
+    can_list (ticket_of s (g.Q.Desk.seen c.args.desk.now) who) (ticket_of s (g.Q.Desk.seen c.loop-left.desk) who) inv.pages (option_copied c.last_name-last.result) c.requires.may inv.is
+    (c.last_name-last.ensures ∙ ap (λ (l : List Listed). last_text (page_of l)) c.as_slice.ensures ∙ c.loop-left.invariant.last)
 
 pub list-requires-clause-new : goal.list-requires-clause-new
 list-requires-clause-new g c =
@@ -116,8 +119,9 @@ returns-in_err-next-clause-trouble g c =
     let refusal = c.in_err-next.field-0.0 in
     let e = evidence g.Q.Stage.Counted.faults g.Q.Fetch.Counted.faults g.Q.Shard.Counted.faults g.Q.Target.Counted.faults g.Q.Shard.Shard.told g.Q.Target.Target.told in
     let is : HasListed (ticket_of s (seen c.args.desk.now) who) (ticket_of s new who) inv.pages false = c.in_err-next.ensures.kept ∙ inv.is in
-    passed c.from_residual.result (Shown hands.Delete e ⊥ s new who) (Step refusal) c.from_residual.ensures.1
-    (list_shown e s (seen c.loop-left.desk) new who (option_copied c.last_name-last.result) refusal c.refusals_are_of_their_steps.ensures (lists_on (ticket_of s (seen c.args.desk.now) who) (ticket_of s new who) inv.pages false c.requires.may is) c.in_err-next.ensures.step)
+    passed_on c.from_residual.result (Shown hands.Delete e ⊥ s new who) (Step refusal) c.from_residual.ensures.1
+    (list_shown e s (seen c.loop-left.desk) new who (option_copied c.last_name-last.result) refusal c.refusals_are_of_their_steps.ensures
+    (lists_on (ticket_of s (seen c.args.desk.now) who) (ticket_of s new who) inv.pages false c.requires.may is) c.in_err-next.ensures.step)
 
 pub returns-in_err-next-clause-went : goal.returns-in_err-next-clause-went
 returns-in_err-next-clause-went g c =

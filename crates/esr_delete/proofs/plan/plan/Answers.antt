@@ -11,7 +11,8 @@ use Rattle.esr_desk.specs.declared.hand.Hand.TheVariants as hands
 use Rattle.esr_desk.specs.Evidence.{evidence}
 use Rattle.esr_unit.specs.declared.trouble.Trouble.TheVariants.{Step}
 use Rattle.esr_unit.specs.Shown.{Shown}
-use Rattle.esr_delete.proofs.Going.{passed, prune_shown}
+use Rattle.esr_unit.specs.Refusals.{passed_on}
+use Rattle.esr_delete.proofs.Going.{prune_shown}
 use Rattle.esr_delete.proofs.Planning.{found, can_plan, plan_new, plan_tells, has_planned}
 use Rattle.esr_delete.proofs.plan.plan.Goals as goal
 
@@ -44,13 +45,14 @@ returns-in_err-planned-clause-trouble g c =
     let refusal = c.in_err-planned.field-0.0 in
     let kept = c.in_err-planned.ensures.kept in
     let e = evidence g.Q.Stage.Counted.faults g.Q.Fetch.Counted.faults g.Q.Shard.Counted.faults g.Q.Target.Counted.faults g.Q.Shard.Shard.told g.Q.Target.Target.told in
-    passed c.from_residual-in_err-planned.result (Shown hands.Delete e ⊥ s new who) (Step refusal) c.from_residual-in_err-planned.ensures.1
+    passed_on c.from_residual-in_err-planned.result (Shown hands.Delete e ⊥ s new who) (Step refusal) c.from_residual-in_err-planned.ensures.1
     (prune_shown e s old new who (PlanShards (map pruned_of c.in_ok-shards.shards)) refusal (map number_of c.args.uuids.now) None c.refusals_are_of_their_steps.ensures (ap (λ (t : Ticket). t.out) kept ∙ c.requires.may.out)
     (ap (λ (t : Ticket). t.work) kept ∙ c.requires.may.work) c.in_err-planned.ensures.step)
 
 pub returns-in_err-planned-clause-grew : goal.returns-in_err-planned-clause-grew
 returns-in_err-planned-clause-grew g c =
-    outcome_grew_by g.Q.Desk.start (g.Q.Desk.seen c.args.desk.now) (g.Q.Desk.seen c.plan.new.self) c.args.ticket (PruneStep (PlanShards (map pruned_of c.in_ok-shards.shards))) (λ (p : Planned). DrawnFrom p.first.number) c.plan.result c.plan.ensures.step
+    outcome_grew_by g.Q.Desk.start (g.Q.Desk.seen c.args.desk.now) (g.Q.Desk.seen c.plan.new.self) c.args.ticket
+    (PruneStep (PlanShards (map pruned_of c.in_ok-shards.shards))) (λ (p : Planned). DrawnFrom p.first.number) c.plan.result c.plan.ensures.step
 
 pub returns-clause-ok : goal.returns-clause-ok
 returns-clause-ok g c =
@@ -71,8 +73,10 @@ returns-clause-few g c = c.in_ok-shards.ensures.few
 
 pub returns-clause-tells : goal.returns-clause-tells
 returns-clause-tells g c =
-    plan_tells g.Q.Desk.start (g.Q.Desk.seen c.args.desk.now) (g.Q.Desk.seen c.plan.new.self) c.args.ticket (map pruned_of c.in_ok-shards.shards) (DrawnFrom c.in_ok-planned.planned.first.number) c.requires.mine.some c.requires.made c.in_ok-planned.ensures.step
+    plan_tells g.Q.Desk.start (g.Q.Desk.seen c.args.desk.now) (g.Q.Desk.seen c.plan.new.self) c.args.ticket (map pruned_of c.in_ok-shards.shards)
+    (DrawnFrom c.in_ok-planned.planned.first.number) c.requires.mine.some c.requires.made c.in_ok-planned.ensures.step
 
 pub returns-clause-grew : goal.returns-clause-grew
 returns-clause-grew g c =
-    outcome_grew_by g.Q.Desk.start (g.Q.Desk.seen c.args.desk.now) (g.Q.Desk.seen c.plan.new.self) c.args.ticket (PruneStep (PlanShards (map pruned_of c.in_ok-shards.shards))) (λ (p : Planned). DrawnFrom p.first.number) c.plan.result c.plan.ensures.step
+    outcome_grew_by g.Q.Desk.start (g.Q.Desk.seen c.args.desk.now) (g.Q.Desk.seen c.plan.new.self) c.args.ticket
+    (PruneStep (PlanShards (map pruned_of c.in_ok-shards.shards))) (λ (p : Planned). DrawnFrom p.first.number) c.plan.result c.plan.ensures.step

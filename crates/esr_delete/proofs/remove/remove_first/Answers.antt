@@ -4,11 +4,11 @@ use Rattle.esr_core.specs.Entry.{RemoveDoomed, PruneStep, WasRemoved}
 use Rattle.esr_formats.specs.Names.{name_of}
 use Rattle.esr_desk.specs.Start.{ticket_of}
 use Rattle.esr_desk.specs.Grew.{grew_by_none, outcome_grew_by}
+use Rattle.esr_unit.specs.Refusals.{passed_on}
 use Rattle.esr_delete.specs.Refused.{IsRemovalRefused}
 use Rattle.esr_delete.specs.Removed.{Removed}
 use Rattle.esr_delete.proofs.Removing.{can_remove, fresh_removal, batch_layout}
 use Rattle.esr_delete.proofs.Passing.{passed_removed, passed_refused}
-use Rattle.esr_delete.proofs.Clearing.{passed_on}
 use Rattle.esr_delete.proofs.remove.remove_first.Goals as goal
 
 pub returns-in_err-batch-clause-grew : goal.returns-in_err-batch-clause-grew

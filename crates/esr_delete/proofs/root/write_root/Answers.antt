@@ -5,9 +5,10 @@ use Rattle.esr_desk.specs.declared.hand.Hand.TheVariants as hands
 use Rattle.esr_desk.specs.Evidence.{evidence}
 use Rattle.esr_desk.specs.Start.{ticket_of}
 use Rattle.esr_unit.specs.Shown.{Shown}
+use Rattle.esr_unit.specs.Refusals.{passed_on}
 use Rattle.esr_finish.specs.Runs.{taken_on, went_on}
 use Rattle.esr_delete.specs.Planned.{IsPruner}
-use Rattle.esr_delete.proofs.Going.{passed, put_shown, latest_shown}
+use Rattle.esr_delete.proofs.Going.{put_shown, latest_shown}
 use Rattle.esr_delete.proofs.Rooting.{can_put, pruner_on, latest_there, latest_failed}
 use Rattle.esr_delete.proofs.root.write_root.Goals as goal
 
@@ -21,7 +22,7 @@ returns-in_err-generation-clause-trouble g c =
     let e = evidence g.Q.Stage.Counted.faults g.Q.Fetch.Counted.faults g.Q.Shard.Counted.faults g.Q.Target.Counted.faults g.Q.Shard.Shard.told g.Q.Target.Target.told in
     let own = pruner_on (ticket_of s (g.Q.Desk.seen c.args.desk.now) who) (ticket_of s new who) c.args.clean c.requires.pruner c.put_root.ensures.went.worked in
     let trouble = c.in_err-generation.field-0.0 in
-    passed c.from_residual.result (Shown hands.Delete e ⊥ s new who) trouble c.from_residual.ensures.1 (put_shown e s new who trouble own.uuids own.plan c.refusals_are_of_their_steps.ensures own.out own.work c.in_err-generation.ensures.refused)
+    passed_on c.from_residual.result (Shown hands.Delete e ⊥ s new who) trouble c.from_residual.ensures.1 (put_shown e s new who trouble own.uuids own.plan c.refusals_are_of_their_steps.ensures own.out own.work c.in_err-generation.ensures.refused)
 
 -- ---- `index.latest`
 
@@ -46,7 +47,8 @@ returns-in_err-put-clause-trouble g c =
     let went = went_on s (g.Q.Desk.seen c.args.desk.now) (g.Q.Desk.seen c.put_root.new.desk) (g.Q.Desk.seen c.try_latest.new.desk) c.args.ticket c.put_root.ensures.went c.try_latest.ensures.went in
     let own = pruner_on (ticket_of s (g.Q.Desk.seen c.args.desk.now) who) (ticket_of s new who) c.args.clean c.requires.pruner went.worked in
     let trouble = c.in_err-put.field-0.0 in
-    passed c.from_residual-in_err-put.result (Shown hands.Delete e ⊥ s new who) trouble c.from_residual-in_err-put.ensures.1 (put_shown e s new who trouble own.uuids own.plan c.refusals_are_of_their_steps.ensures own.out own.work c.in_err-put.ensures.refused)
+    passed_on c.from_residual-in_err-put.result (Shown hands.Delete e ⊥ s new who) trouble c.from_residual-in_err-put.ensures.1
+    (put_shown e s new who trouble own.uuids own.plan c.refusals_are_of_their_steps.ensures own.out own.work c.in_err-put.ensures.refused)
 
 pub returns-in_err-put-clause-went : goal.returns-in_err-put-clause-went
 returns-in_err-put-clause-went g c =

@@ -24,7 +24,8 @@ end_cleanup-requires-clause-mine g c κs within = taken_on (g.Q.Desk.calls c.arg
 
 pub end_cleanup-requires-clause-may : goal.end_cleanup-requires-clause-may
 end_cleanup-requires-clause-may g c κs within =
-    can_end_cleanup g.Q.Desk.start (g.Q.Desk.seen c.args.desk.now) (g.Q.Desk.seen c.remove_once.new.desk) c.args.ticket (map name_of c.args.names.now) c.remove_once.ensures.own c.requires.over c.requires.mode c.requires.names c.requires.well c.requires.put
+    can_end_cleanup g.Q.Desk.start (g.Q.Desk.seen c.args.desk.now) (g.Q.Desk.seen c.remove_once.new.desk) c.args.ticket
+    (map name_of c.args.names.now) c.remove_once.ensures.own c.requires.over c.requires.mode c.requires.names c.requires.well c.requires.put
     c.in-Ok.ensures.removed
 
 pub end_cleanup-requires-clause-new : goal.end_cleanup-requires-clause-new

@@ -5,21 +5,23 @@ use Rattle.esr_desk.specs.Start.{ticket_of}
 use Rattle.esr_desk.specs.Halts.{Halts}
 use Rattle.esr_desk.specs.Grew.{grew_by_on, outcome_grew_by}
 use Rattle.esr_desk.specs.Delete.Conditions.{CanEndDelete}
+use Rattle.esr_unit.specs.Refusals.{passed_on, on_err}
 use Rattle.esr_finish.specs.Runs.{taken_on}
-use Rattle.esr_delete.proofs.Clearing.{passed_on, any_err, can_end, ended_ok, ended_kept}
+use Rattle.esr_delete.proofs.Clearing.{can_end, ended_ok, ended_kept}
 use Rattle.esr_delete.proofs.Passing.{IsDeletes, ended_halts, removal_stops}
 use Rattle.esr_delete.proofs.settle.clear.Goals as goal
 use Rattle.esr_delete.proofs.settle.clear.Goals.{In_ok-remove_once}
 
 may_end : (g : _) (c : In_ok-remove_once g) → CanEndDelete g.Q.Desk.start (g.Q.Desk.seen c.remove_once.new.desk) c.args.ticket
 may_end g c =
-    can_end g.Q.Desk.start (g.Q.Desk.seen c.args.desk.now) (g.Q.Desk.seen c.remove_once.new.desk) c.args.ticket (map name_of c.args.names.now) c.remove_once.ensures.own c.requires.over c.requires.mode c.requires.names c.in_ok-remove_once.ensures.removed
+    can_end g.Q.Desk.start (g.Q.Desk.seen c.args.desk.now) (g.Q.Desk.seen c.remove_once.new.desk) c.args.ticket
+    (map name_of c.args.names.now) c.remove_once.ensures.own c.requires.over c.requires.mode c.requires.names c.in_ok-remove_once.ensures.removed
 
 pub returns-in_err-remove_once-clause-kept : goal.returns-in_err-remove_once-clause-kept
 returns-in_err-remove_once-clause-kept g c =
     let s = g.Q.Desk.start in
     let who = c.args.ticket in
-    any_err c.from_residual.result (ticket_of s (g.Q.Desk.seen c.remove_once.new.desk) who ≡ ticket_of s (g.Q.Desk.seen c.args.desk.now) who) c.remove_once.ensures.own
+    on_err c.from_residual.result (ticket_of s (g.Q.Desk.seen c.remove_once.new.desk) who ≡ ticket_of s (g.Q.Desk.seen c.args.desk.now) who) c.remove_once.ensures.own
 
 pub returns-in_err-remove_once-clause-refused : goal.returns-in_err-remove_once-clause-refused
 returns-in_err-remove_once-clause-refused g c =
@@ -37,7 +39,8 @@ end_delete-requires-clause-may g c = may_end g (goal.at.end_delete-requires-clau
 
 pub returns-clause-ok : goal.returns-clause-ok
 returns-clause-ok g c =
-    ended_ok g.Q.Desk.start (g.Q.Desk.seen c.args.desk.now) (g.Q.Desk.seen c.remove_once.new.desk) (g.Q.Desk.seen c.end_delete.new.self) c.args.ticket c.end_delete.result c.requires.mine.some c.remove_once.ensures.own (may_end g (goal.at.returns-clause-ok g c).In_ok-remove_once) c.end_delete.ensures.own c.end_delete.ensures.step
+    ended_ok g.Q.Desk.start (g.Q.Desk.seen c.args.desk.now) (g.Q.Desk.seen c.remove_once.new.desk) (g.Q.Desk.seen c.end_delete.new.self) c.args.ticket c.end_delete.result c.requires.mine.some c.remove_once.ensures.own
+    (may_end g (goal.at.returns-clause-ok g c).In_ok-remove_once) c.end_delete.ensures.own c.end_delete.ensures.step
 
 pub returns-clause-kept : goal.returns-clause-kept
 returns-clause-kept g c =

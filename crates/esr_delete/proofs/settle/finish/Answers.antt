@@ -2,9 +2,9 @@ use Rattle.std.proofs.Common.{◌∙◌, Bool, inl, inr, refl, sym, subst}
 use Rattle.std.proofs.lemmas.Result.{on_ok_weaker}
 use Rattle.esr_desk.specs.declared.unit.UnitRefusal.TheVariants.{Stopped}
 use Rattle.esr_desk.specs.Evidence.{evidence}
+use Rattle.esr_unit.specs.Refusals.{passed_on}
 use Rattle.esr_delete.specs.Refused.{IsCleanRefused, IsLateRefused}
 use Rattle.esr_delete.specs.Removed.{IsCleared}
-use Rattle.esr_delete.proofs.Clearing.{passed_on}
 use Rattle.esr_delete.proofs.Uniting.{if_err}
 use Rattle.esr_delete.proofs.settle.finish.Goals as goal
 

@@ -21,7 +21,8 @@ returns-in_err-once-clause-grew g c = grew_by_none g.Q.Desk.start c.args.ticket 
 
 pub remove_all-requires-clause-layout : goal.remove_all-requires-clause-layout
 remove_all-requires-clause-layout g c κs within =
-    subst (λ (l : List CodeName). (name : CodeName) → Has l name → IsName name) (sym c.as_slice.ensures) (once_layout c.args.names.now c.in_ok-once.once (same_names g (goal.at.remove_all-requires-clause-layout g c).In_ok-once) c.as_slice-items.ensures.laid)
+    subst (λ (l : List CodeName). (name : CodeName) → Has l name → IsName name) (sym c.as_slice.ensures)
+    (once_layout c.args.names.now c.in_ok-once.once (same_names g (goal.at.remove_all-requires-clause-layout g c).In_ok-once) c.as_slice-items.ensures.laid)
 
 pub remove_all-requires-clause-once : goal.remove_all-requires-clause-once
 remove_all-requires-clause-once g c κs within = subst (λ (l : List CodeName). AreOnce (map name_of l)) (sym c.as_slice.ensures) c.in_ok-once.ensures.once

@@ -13,6 +13,7 @@ use Rattle.esr_desk.specs.Delete.Conditions.{CanSettleDelete}
 use Rattle.esr_desk.specs.Evidence.{evidence}
 use Rattle.esr_desk.specs.Start.{formats_of, ticket_of, world_of}
 use Rattle.esr_unit.specs.Shown.{Shown}
+use Rattle.esr_unit.specs.Refusals.{passed_on}
 use Rattle.esr_finish.specs.Runs.{taken_on}
 use Rattle.esr_delete.specs.Gathered.{IsUnplanned}
 use Rattle.esr_finish.specs.Went.{Went as PutWent}
@@ -20,7 +21,7 @@ use Rattle.esr_delete.specs.Planned.{NotesOwn, IsUnwritten, IsIndexed}
 use Rattle.esr_delete.specs.Ticket.{IsReady, HasWritten}
 use Rattle.esr_delete.specs.Went.{Went}
 use Rattle.esr_delete.specs.declared.doom.Written.{Written}
-use Rattle.esr_delete.proofs.Going.{passed, put_shown, uuids_same}
+use Rattle.esr_delete.proofs.Going.{put_shown, uuids_same}
 use Rattle.esr_delete.proofs.Preparing.{read_free, unwritten, indexed, written, settles, went_read, went_kept, went_planned, went_join, went_then_put}
 use Rattle.esr_delete.proofs.Uniting.{if_ok, if_both}
 use Rattle.esr_delete.proofs.unit.prepare.Goals as goal
@@ -47,7 +48,8 @@ unwritten_at g c =
     let clean = c.args.clean in
     let root = root_of c.args.copy.now.root in
     let uuids = map number_of c.args.uuids.now in
-    unwritten s t1 (ticket_of s (g.Q.Desk.seen c.plan.new.desk) who) clean root (root_of d.root) uuids c.in_ok-held.held (map pruned_of d.shards) d.first.number (read_free t0 t1 clean root uuids c.requires.may c.gather.ensures.read) c.in_ok-draft.ensures.ok
+    unwritten s t1 (ticket_of s (g.Q.Desk.seen c.plan.new.desk) who) clean root (root_of d.root) uuids c.in_ok-held.held
+    (map pruned_of d.shards) d.first.number (read_free t0 t1 clean root uuids c.requires.may c.gather.ensures.read) c.in_ok-draft.ensures.ok
 
 went_at : (g : _) (c : In_ok-draft g) → Went g.Q.Desk.start (g.Q.Desk.seen c.args.desk.now) (g.Q.Desk.seen c.plan.new.desk) c.args.ticket
 went_at g c =
@@ -78,7 +80,8 @@ returns-in_err-draft-clause-went g c =
     let who = c.args.ticket in
     let seen = g.Q.Desk.seen in
     went_kept s (seen c.args.desk.now) (seen c.gather.new.desk) (seen c.plan.new.desk) who
-    (went_read s (seen c.args.desk.now) (seen c.gather.new.desk) who c.args.clean (root_of c.args.copy.now.root) (map number_of c.args.uuids.now) c.requires.may c.gather.ensures.grew c.gather.ensures.read) c.plan.ensures.grew c.in_err-draft.ensures.kept
+    (went_read s (seen c.args.desk.now) (seen c.gather.new.desk) who c.args.clean (root_of c.args.copy.now.root) (map number_of c.args.uuids.now) c.requires.may c.gather.ensures.grew c.gather.ensures.read) c.plan.ensures.grew
+    c.in_err-draft.ensures.kept
 
 pub returns-in_err-draft-clause-calls : goal.returns-in_err-draft-clause-calls
 returns-in_err-draft-clause-calls g c = c.plan.ensures.calls ∙ c.gather.ensures.calls
@@ -100,7 +103,7 @@ returns-in_err-write_indices-clause-trouble g c =
     let e = evidence g.Q.Stage.Counted.faults g.Q.Fetch.Counted.faults g.Q.Shard.Counted.faults g.Q.Target.Counted.faults g.Q.Shard.Shard.told g.Q.Target.Target.told in
     let went = went_then_put s (seen c.args.desk.now) (seen c.plan.new.desk) new who (went_at g (goal.at.returns-in_err-write_indices-clause-trouble g c).In_ok-draft) c.write_indices.ensures.went in
     let trouble = c.in_err-write_indices.field-0.0 in
-    passed c.from_residual-in_err-write_indices.result (Shown hands.Delete e ⊥ s new who) trouble c.from_residual-in_err-write_indices.ensures.1
+    passed_on c.from_residual-in_err-write_indices.result (Shown hands.Delete e ⊥ s new who) trouble c.from_residual-in_err-write_indices.ensures.1
     (put_shown e s new who trouble went.worked.uuids went.worked.plan c.refusals_are_of_their_steps.ensures (ap (λ (t : Ticket). t.out) went.worked.is ∙ c.requires.may.out) (ap (λ (t : Ticket). t.work) went.worked.is)
     c.in_err-write_indices.ensures.trouble)
 
@@ -197,7 +200,8 @@ returns-then-clean-clause-put g c =
 pub returns-then-clean-clause-went : goal.returns-then-clean-clause-went
 returns-then-clean-clause-went g c =
     let seen = g.Q.Desk.seen in
-    went_join g.Q.Desk.start (seen c.args.desk.now) (seen c.write_indices.new.desk) (seen c.write_cleanup.new.desk) c.args.ticket (put_at g (goal.at.returns-then-clean-clause-went g c).In_ok-draft (g.Q.Desk.seen c.write_indices.new.desk) c.write_indices.ensures.went) c.write_cleanup.ensures.went
+    went_join g.Q.Desk.start (seen c.args.desk.now) (seen c.write_indices.new.desk) (seen c.write_cleanup.new.desk) c.args.ticket
+    (put_at g (goal.at.returns-then-clean-clause-went g c).In_ok-draft (g.Q.Desk.seen c.write_indices.new.desk) c.write_indices.ensures.went) c.write_cleanup.ensures.went
 
 pub returns-then-clean-clause-calls : goal.returns-then-clean-clause-calls
 returns-then-clean-clause-calls g c = c.write_cleanup.ensures.calls ∙ c.write_indices.ensures.calls ∙ c.plan.ensures.calls ∙ c.gather.ensures.calls
@@ -220,7 +224,8 @@ pub write_delete-requires-clause-mode : goal.write_delete-requires-clause-mode
 write_delete-requires-clause-mode g c κs within = mode_at g (goal.at.write_delete-requires-clause-mode g c).In_ok-draft (g.Q.Desk.seen c.write_indices.new.desk) false c.write_indices.ensures.went c.if-clean.false
 
 pub write_delete-requires-clause-copied : goal.write_delete-requires-clause-copied
-write_delete-requires-clause-copied g c κs within = c.requires.may.root_is ∙ sym (ap (λ (t : Ticket). t.root) (put_at g (goal.at.write_delete-requires-clause-copied g c).In_ok-draft (g.Q.Desk.seen c.write_indices.new.desk) c.write_indices.ensures.went).worked.is)
+write_delete-requires-clause-copied g c κs within =
+    c.requires.may.root_is ∙ sym (ap (λ (t : Ticket). t.root) (put_at g (goal.at.write_delete-requires-clause-copied g c).In_ok-draft (g.Q.Desk.seen c.write_indices.new.desk) c.write_indices.ensures.went).worked.is)
 
 pub write_delete-requires-clause-safe : goal.write_delete-requires-clause-safe
 write_delete-requires-clause-safe g c κs within = ap (λ (t : Ticket). t.safe) (put_at g (goal.at.write_delete-requires-clause-safe g c).In_ok-draft (g.Q.Desk.seen c.write_indices.new.desk) c.write_indices.ensures.went).worked.is ∙ c.requires.safe
@@ -261,7 +266,8 @@ returns-else-clean-clause-put g c =
 pub returns-else-clean-clause-went : goal.returns-else-clean-clause-went
 returns-else-clean-clause-went g c =
     let seen = g.Q.Desk.seen in
-    went_join g.Q.Desk.start (seen c.args.desk.now) (seen c.write_indices.new.desk) (seen c.write_delete.new.desk) c.args.ticket (put_at g (goal.at.returns-else-clean-clause-went g c).In_ok-draft (g.Q.Desk.seen c.write_indices.new.desk) c.write_indices.ensures.went) c.write_delete.ensures.went
+    went_join g.Q.Desk.start (seen c.args.desk.now) (seen c.write_indices.new.desk) (seen c.write_delete.new.desk) c.args.ticket
+    (put_at g (goal.at.returns-else-clean-clause-went g c).In_ok-draft (g.Q.Desk.seen c.write_indices.new.desk) c.write_indices.ensures.went) c.write_delete.ensures.went
 
 pub returns-else-clean-clause-calls : goal.returns-else-clean-clause-calls
 returns-else-clean-clause-calls g c = c.write_delete.ensures.calls ∙ c.write_indices.ensures.calls ∙ c.plan.ensures.calls ∙ c.gather.ensures.calls

@@ -61,7 +61,8 @@ end_early-requires-clause-may g c κs within =
 pub end_early-requires-clause-shown : goal.end_early-requires-clause-shown
 end_early-requires-clause-shown g c κs within =
     let e = evidence g.Q.Stage.Counted.faults g.Q.Fetch.Counted.faults g.Q.Shard.Counted.faults g.Q.Target.Counted.faults g.Q.Shard.Shard.told g.Q.Target.Target.told in
-    subst (λ (ending : Ending g.row.Q-Stage.Denot g.row.Q-Fetch.Denot g.row.Q-Shard.Denot g.row.Q-Target.Denot). EndingShown hands.Delete e ⊥ g.Q.Desk.start (g.Q.Desk.seen c.prepare.new.desk) c.args.ticket ending) (sym c.ending_of.ensures) c.in-Err.ensures.trouble
+    subst (λ (ending : Ending g.row.Q-Stage.Denot g.row.Q-Fetch.Denot g.row.Q-Shard.Denot g.row.Q-Target.Denot). EndingShown hands.Delete e ⊥ g.Q.Desk.start (g.Q.Desk.seen c.prepare.new.desk) c.args.ticket ending)
+    (sym c.ending_of.ensures) c.in-Err.ensures.trouble
 
 pub end_early-requires-clause-cause : goal.end_early-requires-clause-cause
 end_early-requires-clause-cause g c κs within = tt

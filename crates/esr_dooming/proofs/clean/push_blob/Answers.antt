@@ -7,8 +7,8 @@ use Rattle.esr_model.specs.Names.{BlobName}
 use Rattle.esr_model.specs.Values.{Bytes}
 use Rattle.esr_formats.specs.Names.{name_of, name_kind}
 use Rattle.esr_reach.specs.Names.{Pushed}
+use Rattle.esr_reach.specs.NamePieces.{pushed_none}
 use Rattle.esr_dooming.specs.Unreached.{name_piece}
-use Rattle.esr_dooming.proofs.Unreaching.{none_pushed}
 use Rattle.esr_dooming.proofs.clean.push_blob.Goals as goal
 
 pub push_name-requires : goal.push_name-requires
@@ -26,4 +26,4 @@ returns-in-None c =
     let has = contains name_block.ghosts.cmp c.args.reached.now in
     let text : c.as_bytes.result.now ≡ c.args.blob.now.name = c.as_bytes.ensures.value ∙ c.as_str-text.ensures.text in
     let read : name_kind.read c.args.blob.now.name ≡ None = ap (λ (b : Bytes). name_kind.read b) (sym text) ∙ c.read_name.ensures.read ∙ ap (option_map name_of) c.in-None.is in
-    subst (λ (o : Option BlobName). Pushed c.args.names.now c.args.names.now (name_piece has o)) (sym read) (none_pushed c.args.names.now)
+    subst (λ (o : Option BlobName). Pushed c.args.names.now c.args.names.now (name_piece has o)) (sym read) (pushed_none c.args.names.now)

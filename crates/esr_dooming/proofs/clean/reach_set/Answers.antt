@@ -9,4 +9,5 @@ use Rattle.esr_dooming.proofs.clean.reach_set.Goals as goal
 
 pub returns : goal.returns
 returns c =
-    subst (λ (ns : List BlobName). IfOk c.set_of.result (λ set. (name : CodeName) → (contains name_block.ghosts.cmp set name ≡ true) ↔ Has ns (name_of name))) (ap (map name_of) c.as_slice.ensures ∙ c.in_ok-names.ensures.order) c.set_of.ensures
+    subst (λ (ns : List BlobName). IfOk c.set_of.result (λ set. (name : CodeName) → (contains name_block.ghosts.cmp set name ≡ true) ↔ Has ns (name_of name)))
+    (ap (map name_of) c.as_slice.ensures ∙ c.in_ok-names.ensures.order) c.set_of.ensures

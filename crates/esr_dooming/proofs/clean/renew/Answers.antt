@@ -18,7 +18,8 @@ pub loop-shard-preserved : goal.loop-shard-preserved
 loop-shard-preserved c =
     let items = c.args.shards.now in
     let k = c.loop-shard.shard-index in
-    renewed_next c.args.held.now c.loop-shard.held c.renew_shard.new.held items k (get_or items k no_shard) (map number_of c.args.uuids.now) c.requires.once c.loop-shard-test.true (item_is items k no_shard c.loop-shard-test.true) c.loop-shard.invariant
+    renewed_next c.args.held.now c.loop-shard.held c.renew_shard.new.held items k (get_or items k no_shard)
+    (map number_of c.args.uuids.now) c.requires.once c.loop-shard-test.true (item_is items k no_shard c.loop-shard-test.true) c.loop-shard.invariant
     c.in_ok-renew_shard.ensures
 
 pub returns : goal.returns

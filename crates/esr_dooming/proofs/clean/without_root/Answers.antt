@@ -4,8 +4,8 @@ use Rattle.esr_model.specs.Loops.{item_is}
 use Rattle.esr_names.specs.declared.blob.BlobName.{BlobName as CodeName}
 use Rattle.esr_names.specs.declared.blob.BlobName.TheVariants as code
 use Rattle.esr_names.specs.Layout.{IsName}
+use Rattle.esr_model.specs.Lists.{all_has}
 use Rattle.esr_formats.specs.Names.{name_of}
-use Rattle.esr_reach.specs.Members.{all_has}
 use Rattle.esr_dooming.proofs.Unreaching.{rest_pushed, rest_passed, rest_all, item_has}
 use Rattle.esr_dooming.proofs.clean.without_root.Goals as goal
 use Rattle.esr_dooming.proofs.clean.without_root.Goals.{then-not-is_root+in_ok-push, else-not-is_root}

@@ -53,9 +53,12 @@ returns-in-Err-answer g c = subst (λ (old : List Moment). HasWaited g.Q.Desk.st
 
 pub returns-in-Ok-answer : goal.returns-in-Ok-answer
 returns-in-Ok-answer g c = subst (λ (old : List Moment). HasWaited g.Q.Desk.start old (g.Q.Desk.seen c.work_off-answer.new.desk) c.args.crew.workers c.args.crew.elections c.work_off-answer.result) c.requires.picked
-    (waited_off c.ended_tickets_stay.ensures.tickets c.ended_tickets_stay.ensures.readers g.Q.Desk.start g.B.Since.before (g.Q.Desk.seen c.work_at-desk.result.0) (g.Q.Desk.seen c.work_off-answer.new.desk) c.args.crew.workers c.args.crew.elections c.work_off-answer.result c.requires.waits.alone
-    (subst (HasSat g.Q.Desk.start g.B.Since.before (g.Q.Desk.seen c.work_at-desk.result.0) c.args.crew.workers c.args.crew.elections) c.in-Ok-answer.is c.work_at-desk.ensures) c.work_off-answer.ensures.grew c.work_off-answer.ensures.only c.work_off-answer.ensures.takes c.work_off-answer.ensures.rest c.work_off-answer.ensures.readers c.work_off-answer.ensures.ready c.work_off-answer.ensures.stopped)
+    (waited_off c.ended_tickets_stay.ensures.tickets c.ended_tickets_stay.ensures.readers g.Q.Desk.start g.B.Since.before (g.Q.Desk.seen c.work_at-desk.result.0)
+    (g.Q.Desk.seen c.work_off-answer.new.desk) c.args.crew.workers c.args.crew.elections c.work_off-answer.result c.requires.waits.alone
+    (subst (HasSat g.Q.Desk.start g.B.Since.before (g.Q.Desk.seen c.work_at-desk.result.0) c.args.crew.workers c.args.crew.elections) c.in-Ok-answer.is c.work_at-desk.ensures) c.work_off-answer.ensures.grew
+    c.work_off-answer.ensures.only c.work_off-answer.ensures.takes c.work_off-answer.ensures.rest c.work_off-answer.ensures.readers c.work_off-answer.ensures.ready c.work_off-answer.ensures.stopped)
 
 pub returns-in-Err : goal.returns-in-Err
 returns-in-Err g c =
-    subst (λ (old : List Moment). HasWaited g.Q.Desk.start old (g.Q.Desk.seen c.work_one.result.0) c.args.crew.workers c.args.crew.elections c.work_one.result.1) (c.into_desk-desk.ensures ∙ c.in-Err.ensures.err ∙ c.new.ensures) c.work_one.ensures
+    subst (λ (old : List Moment). HasWaited g.Q.Desk.start old (g.Q.Desk.seen c.work_one.result.0) c.args.crew.workers c.args.crew.elections c.work_one.result.1)
+    (c.into_desk-desk.ensures ∙ c.in-Err.ensures.err ∙ c.new.ensures) c.work_one.ensures

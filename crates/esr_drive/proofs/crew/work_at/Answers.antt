@@ -13,4 +13,5 @@ close-requires-clause-all g c =
     omega (arith, turns, left, used)
 
 pub returns : goal.returns
-returns g c = sat_by g.Q.Desk.start g.B.Since.before c.args.lock c.args.pass c.drive_and_elect-pass.result.0 (g.Q.Desk.seen c.close.result) c.args.crew.workers c.args.crew.elections c.drive_and_elect-pass.result.1 c.drive_and_elect-pass.ensures c.close.ensures.whole c.close.ensures.mine
+returns g c = sat_by g.Q.Desk.start g.B.Since.before c.args.lock c.args.pass c.drive_and_elect-pass.result.0
+    (g.Q.Desk.seen c.close.result) c.args.crew.workers c.args.crew.elections c.drive_and_elect-pass.result.1 c.drive_and_elect-pass.ensures c.close.ensures.whole c.close.ensures.mine

@@ -9,7 +9,8 @@ returns-in-Ok-clause-over g c =
     let old = g.Q.Desk.seen c.args.desk.now in
     let unit = c.args.unit.now in
     let who = unit.ready.ticket in
-    op_over c.laws.ensures s c.requires.tracked c.requires.ops who old (g.Q.Desk.seen c.do_op_unit.new.desk) c.requires.legal c.do_op_unit.ensures.grew (took_out unit.ready.work unit.new_root unit.ready.op unit.ready.copy (ticket_of s old who) c.requires.fresh) c.in-Ok.ensures.ended
+    op_over c.laws.ensures s c.requires.tracked c.requires.ops who old (g.Q.Desk.seen c.do_op_unit.new.desk) c.requires.legal c.do_op_unit.ensures.grew
+    (took_out unit.ready.work unit.new_root unit.ready.op unit.ready.copy (ticket_of s old who) c.requires.fresh) c.in-Ok.ensures.ended
 
 pub returns-in-Err-Failed-clause-over : goal.returns-in-Err-Failed-clause-over
 returns-in-Err-Failed-clause-over g c =

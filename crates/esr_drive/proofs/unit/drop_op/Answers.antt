@@ -60,5 +60,6 @@ returns-then-is_late-clause-calls g c = c.end_stale.ensures.calls ∙ c.end_drop
 
 pub returns-else-is_late-clause-stopped : goal.returns-else-is_late-clause-stopped
 returns-else-is_late-clause-stopped g c =
-    drop_halted c.laws.ensures g.Q.Desk.start (g.Q.Desk.seen c.args.desk.now) (g.Q.Desk.seen c.end_drop.new.self) c.args.unit.now.ready.ticket (is_drop g (goal.at.returns-else-is_late-clause-stopped g c).In-Err) c.in-Err.refusal c.in-Err.ensures.step c.in-Err.ensures.kept
+    drop_halted c.laws.ensures g.Q.Desk.start (g.Q.Desk.seen c.args.desk.now) (g.Q.Desk.seen c.end_drop.new.self) c.args.unit.now.ready.ticket
+    (is_drop g (goal.at.returns-else-is_late-clause-stopped g c).In-Err) c.in-Err.refusal c.in-Err.ensures.step c.in-Err.ensures.kept
     (sym c.is_late.ensures ∙ c.if-is_late.false)

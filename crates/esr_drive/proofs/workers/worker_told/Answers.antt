@@ -31,5 +31,7 @@ returns g c =
     let first = c.args.pass in
     let old = c.new-desk.result.pass in
     let last = c.work-answer.new.desk.pass in
-    back_by s before c.args.lock.now g.W.Share.lock g.W.Share.total first last c.into_pass.result 1 0 c.work-answer.result c.requires.picked.0 c.requires.picked.1 c.requires.new.unused c.into_pass.ensures.pass c.into_pass.ensures.own c.into_pass.ensures.turns c.into_pass.ensures.fit
-    (worked_by s (before ++ last.seen) (calls_in (length before) old.seen old.mine) (calls_in (length before) last.seen last.mine) c.work-answer.result (none_called (length before) first old c.new-desk.ensures.pass c.requires.new.mine) c.work-answer.ensures.calls c.work-answer.ensures.ended c.work-answer.ensures.stopped)
+    back_by s before c.args.lock.now g.W.Share.lock g.W.Share.total first last c.into_pass.result 1 0 c.work-answer.result c.requires.picked.0
+    c.requires.picked.1 c.requires.new.unused c.into_pass.ensures.pass c.into_pass.ensures.own c.into_pass.ensures.turns c.into_pass.ensures.fit
+    (worked_by s (before ++ last.seen) (calls_in (length before) old.seen old.mine) (calls_in (length before) last.seen last.mine) c.work-answer.result
+    (none_called (length before) first old c.new-desk.ensures.pass c.requires.new.mine) c.work-answer.ensures.calls c.work-answer.ensures.ended c.work-answer.ensures.stopped)

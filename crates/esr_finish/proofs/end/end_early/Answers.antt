@@ -52,7 +52,8 @@ returns-in-Stopped-clause-given_up g c =
     let s = g.Q.Desk.start in
     let old = g.Q.Desk.seen c.args.desk.now in
     let e = evidence g.Q.Stage.Counted.faults g.Q.Fetch.Counted.faults g.Q.Shard.Counted.faults g.Q.Target.Counted.faults g.Q.Shard.Shard.told g.Q.Target.Target.told in
-    stopped_up c.args.hand e s old c.args.ticket c.in-Stopped.refusal (subst (λ (ending : Ending g.row.Q-Stage.Denot g.row.Q-Fetch.Denot g.row.Q-Shard.Denot g.row.Q-Target.Denot). EndingShown c.args.hand e ⊥ s old c.args.ticket ending) c.in-Stopped.is c.requires.shown)
+    stopped_up c.args.hand e s old c.args.ticket c.in-Stopped.refusal
+    (subst (λ (ending : Ending g.row.Q-Stage.Denot g.row.Q-Fetch.Denot g.row.Q-Shard.Denot g.row.Q-Target.Denot). EndingShown c.args.hand e ⊥ s old c.args.ticket ending) c.in-Stopped.is c.requires.shown)
 
 pub returns-in-Stopped-clause-grew : goal.returns-in-Stopped-clause-grew
 returns-in-Stopped-clause-grew g c = grew_by_none g.Q.Desk.start c.args.ticket (g.Q.Desk.seen c.args.desk.now)

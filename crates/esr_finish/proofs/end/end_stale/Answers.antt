@@ -30,7 +30,8 @@ returns-in-Ok-clause-grew g c =
 
 pub give_up-requires-clause-mine : goal.give_up-requires-clause-mine
 give_up-requires-clause-mine g c κs within =
-    mine_of c.args.hand (ticket_of g.Q.Desk.start (g.Q.Desk.seen c.args.desk.now) c.args.ticket) (g.Q.Desk.calls c.finish.new.self) c.args.ticket c.requires.may (taken_on (g.Q.Desk.calls c.args.desk.now) (g.Q.Desk.calls c.finish.new.self) c.args.ticket c.finish.ensures.calls c.requires.mine)
+    mine_of c.args.hand (ticket_of g.Q.Desk.start (g.Q.Desk.seen c.args.desk.now) c.args.ticket) (g.Q.Desk.calls c.finish.new.self) c.args.ticket c.requires.may
+    (taken_on (g.Q.Desk.calls c.args.desk.now) (g.Q.Desk.calls c.finish.new.self) c.args.ticket c.finish.ensures.calls c.requires.mine)
 
 pub give_up-requires-clause-may : goal.give_up-requires-clause-may
 give_up-requires-clause-may g c κs within =
@@ -43,11 +44,13 @@ give_up-requires-clause-shown g c κs within =
     let mid = g.Q.Desk.seen c.finish.new.self in
     let who = c.args.ticket in
     let e = evidence g.Q.Stage.Counted.faults g.Q.Fetch.Counted.faults g.Q.Shard.Counted.faults g.Q.Target.Counted.faults g.Q.Shard.Shard.told g.Q.Target.Target.told in
-    subst (λ (ending : Ending g.row.Q-Stage.Denot g.row.Q-Fetch.Denot g.row.Q-Shard.Denot g.row.Q-Target.Denot). EndingShown c.args.hand e ⊥ s mid who ending) (sym c.ending_of.ensures) (finish_shown c.args.hand e s old mid who c.in-Err.refusal c.refusals_are_of_their_steps.ensures (subst (CanGiveUp c.args.hand) (sym c.in-Err.ensures.kept) c.requires.may) c.in-Err.ensures.step)
+    subst (λ (ending : Ending g.row.Q-Stage.Denot g.row.Q-Fetch.Denot g.row.Q-Shard.Denot g.row.Q-Target.Denot). EndingShown c.args.hand e ⊥ s mid who ending) (sym c.ending_of.ensures)
+    (finish_shown c.args.hand e s old mid who c.in-Err.refusal c.refusals_are_of_their_steps.ensures (subst (CanGiveUp c.args.hand) (sym c.in-Err.ensures.kept) c.requires.may) c.in-Err.ensures.step)
 
 pub give_up-requires-clause-present : goal.give_up-requires-clause-present
 give_up-requires-clause-present g c κs within = λ same.
-    (finish_ends {S = g.row.Q-Stage.Denot} {F = g.row.Q-Fetch.Denot} {H = g.row.Q-Shard.Denot} {T = g.row.Q-Target.Denot} g.Q.Desk.start (g.Q.Desk.seen c.args.desk.now) (g.Q.Desk.seen c.finish.new.self) c.args.ticket c.in-Err.refusal c.refusals_are_of_their_steps.ensures c.in-Err.ensures.step).0
+    (finish_ends {S = g.row.Q-Stage.Denot} {F = g.row.Q-Fetch.Denot} {H = g.row.Q-Shard.Denot} {T = g.row.Q-Target.Denot} g.Q.Desk.start
+    (g.Q.Desk.seen c.args.desk.now) (g.Q.Desk.seen c.finish.new.self) c.args.ticket c.in-Err.refusal c.refusals_are_of_their_steps.ensures c.in-Err.ensures.step).0
     (sym c.ending_of.ensures ∙ same)
 
 pub returns-in-Err-clause-given_up : goal.returns-in-Err-clause-given_up

@@ -7,7 +7,7 @@ use Rattle.esr_unit.specs.declared.trouble.Trouble.TheVariants.{Step}
 use Rattle.esr_finish.specs.Went.{Went}
 use Rattle.esr_finish.specs.Refused.{IsPutRefused}
 use Rattle.esr_finish.specs.Runs.{taken_on, went_on, worked_not}
-use Rattle.esr_finish.proofs.Runs.{passed, worked_to, begin_went, commit_went}
+use Rattle.esr_finish.proofs.Runs.{worked_to, begin_went, commit_went}
 use Rattle.esr_finish.proofs.Stopping.{other_than_latest, writing_refused}
 use Rattle.std.proofs.Common.{◌≡◌, inl, Option, refl, sym, ap, ◌∙◌, subst}
 use Rattle.std.specs.Io.KnownBytes.{append_known}
@@ -20,6 +20,7 @@ use Rattle.esr_model.specs.Names.{BlobName}
 use Rattle.esr_desk.specs.Once.{IsFresh}
 use Rattle.esr_desk.specs.Taken.{committed_by}
 use Rattle.esr_desk.specs.Told.{begin_fresh, commit_fresh, blob_tells}
+use Rattle.esr_unit.specs.Refusals.{passed_on}
 use Rattle.esr_finish.proofs.one_blob.put.Goals as goal
 use Rattle.esr_finish.proofs.one_blob.put.Goals.{In_ok-named}
 
@@ -39,7 +40,10 @@ returns-in_err-commit-clause-went g c =
     let new = g.Q.Desk.seen c.commit.new.self in
     let t = ticket_of s mid c.args.ticket in
     went_on s (g.Q.Desk.seen c.args.desk.now) mid new c.args.ticket (begun_went g (goal.at.returns-in_err-commit-clause-went g c).In_ok-named)
-    (record { grew = outcome_grew_by s mid new c.args.ticket (CommitStep (name_of c.in_ok-named.named.name)) commit_reply c.commit.result c.commit.ensures.step; worked = worked_to t t (ticket_of s new c.args.ticket) (worked_not t) c.in_err-commit.ensures.kept })
+    (record {
+      grew = outcome_grew_by s mid new c.args.ticket (CommitStep (name_of c.in_ok-named.named.name)) commit_reply c.commit.result c.commit.ensures.step;
+      worked = worked_to t t (ticket_of s new c.args.ticket) (worked_not t) c.in_err-commit.ensures.kept;
+    })
 
 pub returns-clause-went : goal.returns-clause-went
 returns-clause-went g c =
@@ -60,7 +64,8 @@ commit-requires-clause-may g c =
     let named = c.in_ok-named.named in
     let t0 = ticket_of s (g.Q.Desk.seen c.args.desk.now) who in (
       told,
-      on_ok c.write.result _ (sym c.is_err.ensures.value ∙ c.if-is_err.false) c.write.ensures.written ∙ ap (λ (o : Option Bytes). append_known o c.args.bytes.now) c.in_ok-named.ensures.contents ∙ told_append s c.args.bytes.now ∙ c.requires.may.1,
+      on_ok c.write.result _ (sym c.is_err.ensures.value ∙ c.if-is_err.false) c.write.ensures.written
+          ∙ ap (λ (o : Option Bytes). append_known o c.args.bytes.now) c.in_ok-named.ensures.contents ∙ told_append s c.args.bytes.now ∙ c.requires.may.1,
       subst (λ (t : Ticket). CanCommit s t (name_of named.name) told) (sym c.in_ok-named.ensures.own) (subst (λ (n : CodeName). CanCommit s t0 (name_of n) told) (sym c.in_ok-named.ensures.name) c.requires.may.2),
     )
 
@@ -98,15 +103,16 @@ returns-in_err-named-clause-refused g c =
     let new = g.Q.Desk.seen c.begin.new.self in
     let name = name_of c.args.name in
     let refusal = c.in_err-named.field-0.0 in
-    passed c.from_residual.result (IsPutRefused s g.Q.Stage.Counted.faults new c.args.ticket) (Step refusal) c.from_residual.ensures.1
-    (writing_refused {S = g.row.Q-Stage.Denot} g.row.Q-Fetch.Denot s g.Q.Stage.Counted.faults (g.Q.Desk.seen c.args.desk.now) new c.args.ticket (BeginStep name) refusal tt (λ fault. other_than_latest name c.requires.may.2.stored) c.in_err-named.ensures.step)
+    passed_on c.from_residual.result (IsPutRefused s g.Q.Stage.Counted.faults new c.args.ticket) (Step refusal) c.from_residual.ensures.1
+    (writing_refused {S = g.row.Q-Stage.Denot} g.row.Q-Fetch.Denot s g.Q.Stage.Counted.faults (g.Q.Desk.seen c.args.desk.now) new c.args.ticket
+    (BeginStep name) refusal tt (λ fault. other_than_latest name c.requires.may.2.stored) c.in_err-named.ensures.step)
 
 pub returns-in_err-commit-clause-refused : goal.returns-in_err-commit-clause-refused
 returns-in_err-commit-clause-refused g c =
     let s = g.Q.Desk.start in
     let new = g.Q.Desk.seen c.commit.new.self in
     let refusal = c.in_err-commit.field-0.0 in
-    passed c.from_residual-in_err-commit.result (IsPutRefused s g.Q.Stage.Counted.faults new c.args.ticket) (Step refusal) c.from_residual-in_err-commit.ensures.1
+    passed_on c.from_residual-in_err-commit.result (IsPutRefused s g.Q.Stage.Counted.faults new c.args.ticket) (Step refusal) c.from_residual-in_err-commit.ensures.1
     (writing_refused {S = g.row.Q-Stage.Denot} g.row.Q-Fetch.Denot s g.Q.Stage.Counted.faults (g.Q.Desk.seen c.begin.new.self) new c.args.ticket (CommitStep (name_of c.in_ok-named.named.name)) refusal tt (λ fault. refl) c.in_err-commit.ensures.step)
 
 pub returns-in_err-commit-clause-calls : goal.returns-in_err-commit-clause-calls

@@ -11,11 +11,12 @@ use Rattle.esr_finish.proofs.Blobs.{root_text_is}
 use Rattle.esr_unit.specs.declared.trouble.Trouble.TheVariants.{Step}
 use Rattle.esr_finish.specs.Refused.{IsPutRefused}
 use Rattle.esr_finish.specs.Runs.{taken_on}
-use Rattle.esr_finish.proofs.Runs.{passed, raise_went}
+use Rattle.esr_finish.proofs.Runs.{raise_went}
 use Rattle.esr_finish.proofs.Stopping.{writing_refused}
 use Rattle.esr_finish.proofs.Writing.{root_commits}
 use Rattle.esr_core.specs.Entry.{RaiseStep, RaisedTo}
 use Rattle.esr_desk.specs.Told.{raise_fresh, raise_tells}
+use Rattle.esr_unit.specs.Refusals.{passed_on}
 use Rattle.esr_finish.proofs.root.put_root.Goals as goal
 
 pub put-requires-clause-layout : goal.put-requires-clause-layout
@@ -58,7 +59,8 @@ put-requires-clause-new g c κs within =
 
 pub put-requires-clause-tells : goal.put-requires-clause-tells
 put-requires-clause-tells g c κs within =
-    raise_tells g.Q.Desk.start (g.Q.Desk.seen c.args.desk.now) (g.Q.Desk.seen c.raise.new.self) c.args.ticket c.in_ok-generation.generation (RaisedTo c.in_ok-generation.generation) c.requires.mine.some c.requires.tells c.in_ok-generation.ensures.step c.in_ok-generation.ensures.own
+    raise_tells g.Q.Desk.start (g.Q.Desk.seen c.args.desk.now) (g.Q.Desk.seen c.raise.new.self) c.args.ticket c.in_ok-generation.generation
+    (RaisedTo c.in_ok-generation.generation) c.requires.mine.some c.requires.tells c.in_ok-generation.ensures.step c.in_ok-generation.ensures.own
 
 pub put-requires-clause-mine : goal.put-requires-clause-mine
 put-requires-clause-mine g c κs within = taken_on (g.Q.Desk.calls c.args.desk.now) (g.Q.Desk.calls c.raise.new.self) c.args.ticket c.raise.ensures.calls c.requires.mine
@@ -68,7 +70,7 @@ returns-in_err-generation-clause-refused g c =
     let s = g.Q.Desk.start in
     let new = g.Q.Desk.seen c.raise.new.self in
     let refusal = c.in_err-generation.field-0.0 in
-    passed c.from_residual.result (IsPutRefused s g.Q.Stage.Counted.faults new c.args.ticket) (Step refusal) c.from_residual.ensures.1
+    passed_on c.from_residual.result (IsPutRefused s g.Q.Stage.Counted.faults new c.args.ticket) (Step refusal) c.from_residual.ensures.1
     (writing_refused {S = g.row.Q-Stage.Denot} g.row.Q-Fetch.Denot s g.Q.Stage.Counted.faults (g.Q.Desk.seen c.args.desk.now) new c.args.ticket RaiseStep refusal tt (λ fault. refl) c.in_err-generation.ensures.step)
 
 pub returns-in_err-put-clause-calls : goal.returns-in_err-put-clause-calls

@@ -86,7 +86,8 @@ returns-in-Ok-latest-clause-went g c =
 pub returns-in-Ok-latest-clause-tells : goal.returns-in-Ok-latest-clause-tells
 returns-in-Ok-latest-clause-tells g c =
     let s = g.Q.Desk.start in
-    latest_tells s (g.Q.Desk.seen c.args.desk.now) (g.Q.Desk.seen c.begin.new.self) (g.Q.Desk.seen c.latest.new.self) c.args.ticket WasReplaced c.requires.mine.some c.requires.tells c.in-Ok.ensures.step c.in-Ok.ensures.own c.in-Ok-latest.ensures.step c.in-Ok-latest.ensures.own
+    latest_tells s (g.Q.Desk.seen c.args.desk.now) (g.Q.Desk.seen c.begin.new.self)
+    (g.Q.Desk.seen c.latest.new.self) c.args.ticket WasReplaced c.requires.mine.some c.requires.tells c.in-Ok.ensures.step c.in-Ok.ensures.own c.in-Ok-latest.ensures.step c.in-Ok-latest.ensures.own
 
 pub returns-then-is_fault-clause-tells : goal.returns-then-is_fault-clause-tells
 returns-then-is_fault-clause-tells g c =

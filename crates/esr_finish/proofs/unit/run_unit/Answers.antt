@@ -48,7 +48,8 @@ settle-requires-clause-masters g c κs within =
     let s = g.Q.Desk.start in
     let unit = c.args.unit.now in
     let ready = unit.ready in
-    final_master (ticket_of s (g.Q.Desk.seen c.args.desk.now) ready.ticket) (ticket_of s (g.Q.Desk.seen c.write_swap.new.desk) ready.ticket) ready.work unit.new_root ready.op ready.copy c.in-Finalize.info c.in-Finalize.shards c.in-Finalize.is c.requires.fresh
+    final_master (ticket_of s (g.Q.Desk.seen c.args.desk.now) ready.ticket)
+    (ticket_of s (g.Q.Desk.seen c.write_swap.new.desk) ready.ticket) ready.work unit.new_root ready.op ready.copy c.in-Finalize.info c.in-Finalize.shards c.in-Finalize.is c.requires.fresh
     c.write_swap.ensures.went.worked
 
 pub returns-in-Ok-clause-ok : goal.returns-in-Ok-clause-ok
@@ -80,7 +81,8 @@ end_early-requires-clause-may g c κs within =
     let s = g.Q.Desk.start in
     let unit = c.args.unit.now in
     let ready = unit.ready in
-    final_master (ticket_of s (g.Q.Desk.seen c.args.desk.now) ready.ticket) (ticket_of s (g.Q.Desk.seen c.write_swap.new.desk) ready.ticket) ready.work unit.new_root ready.op ready.copy c.in-Finalize.info c.in-Finalize.shards c.in-Finalize.is c.requires.fresh
+    final_master (ticket_of s (g.Q.Desk.seen c.args.desk.now) ready.ticket)
+    (ticket_of s (g.Q.Desk.seen c.write_swap.new.desk) ready.ticket) ready.work unit.new_root ready.op ready.copy c.in-Finalize.info c.in-Finalize.shards c.in-Finalize.is c.requires.fresh
     c.write_swap.ensures.went.worked
 
 pub end_early-requires-clause-shown : goal.end_early-requires-clause-shown

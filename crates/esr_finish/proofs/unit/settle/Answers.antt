@@ -8,10 +8,10 @@ use Rattle.esr_desk.specs.Told.{settle_fresh}
 use Rattle.esr_desk.specs.Evidence.{evidence}
 use Rattle.esr_desk.specs.Grew.{GrewBy, grew_by_on, outcome_grew_by}
 use Rattle.esr_unit.specs.declared.trouble.Trouble.TheVariants.{Step}
+use Rattle.esr_unit.specs.Refusals.{passed_on}
 use Rattle.esr_finish.specs.Ticket.{IsUnsettledMaster}
 use Rattle.esr_finish.specs.Refused.{IsHalted, is_fault}
 use Rattle.esr_finish.specs.Runs.{taken_on}
-use Rattle.esr_finish.proofs.Runs.{passed}
 use Rattle.esr_finish.proofs.Swaps.{settled_ends}
 use Rattle.esr_finish.proofs.Stopping.{writing_refused, put_shown, put_ends, master_out, finish_stops}
 use Rattle.esr_finish.specs.Stops.{unsettled_same}
@@ -63,7 +63,7 @@ returns-in_err-finish-in-Ok-clause-refused g c =
     let e = evidence g.Q.Stage.Counted.faults g.Q.Fetch.Counted.faults g.Q.Shard.Counted.faults g.Q.Target.Counted.faults g.Q.Shard.Shard.told g.Q.Target.Target.told in
     let refusal = c.in_err-finish-in-Ok.field-0.0 in
     let settled = c.in_err-finish-in-Ok.ensures.kept ∙ c.in-Ok.ensures.own in
-    passed c.from_residual.result (IsHalted e s old new who) (Stopped refusal) c.from_residual.ensures.1
+    passed_on c.from_residual.result (IsHalted e s old new who) (Stopped refusal) c.from_residual.ensures.1
     (inr settled, finish_stops s mid new who refusal c.refusals_are_of_their_steps.ensures (ap (λ (t : Ticket). t.settled) settled) c.in_err-finish-in-Ok.ensures.step)
 
 pub returns-in_err-finish-in-Ok-clause-grew : goal.returns-in_err-finish-in-Ok-clause-grew

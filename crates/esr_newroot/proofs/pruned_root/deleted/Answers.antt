@@ -15,7 +15,8 @@ loop-shard-init c =
 
 pub renewed_shard-requires : goal.renewed_shard-requires
 renewed_shard-requires c =
-    placed_here (root_of c.args.root.now) (map number_of c.args.uuids.now) c.as_slice-shard-items.result.now c.args.first.number c.loop-shard.shard-index c.loop-shard.next.number (root_of c.loop-shard.new) (get_or c.as_slice-shard-items.result.now c.loop-shard.shard-index no_shard) c.loop-shard-test.true
+    placed_here (root_of c.args.root.now) (map number_of c.args.uuids.now) c.as_slice-shard-items.result.now c.args.first.number c.loop-shard.shard-index c.loop-shard.next.number
+    (root_of c.loop-shard.new) (get_or c.as_slice-shard-items.result.now c.loop-shard.shard-index no_shard) c.loop-shard-test.true
     (item_is c.as_slice-shard-items.result.now c.loop-shard.shard-index no_shard c.loop-shard-test.true) c.loop-shard.invariant
 
 pub next_after-next-requires : goal.next_after-next-requires
@@ -35,5 +36,6 @@ loop-shard-preserved c =
 
 pub returns : goal.returns
 returns c =
-    renews_all (root_of c.args.root.now) (map number_of c.args.uuids.now) c.as_slice-shard-items.result.now c.args.first.number c.loop-shard.shard-index c.loop-shard.next.number (root_of c.loop-shard.new) c.loop-shard-test.false c.loop-shard.invariant
+    renews_all (root_of c.args.root.now) (map number_of c.args.uuids.now) c.as_slice-shard-items.result.now c.args.first.number c.loop-shard.shard-index c.loop-shard.next.number
+    (root_of c.loop-shard.new) c.loop-shard-test.false c.loop-shard.invariant
     ∙ ap (λ (shards : List CodePruned). deleted_root (root_of c.args.root.now) (map number_of c.args.uuids.now) (map pruned_of shards) c.args.first.number) c.as_slice-shard-items.ensures

@@ -56,8 +56,12 @@ returns-clause-opened g c =
     let is = c.in_ok-next.ensures.record in
     let back = subst (λ (r : Record). ReadsBack cluster_kind (cluster_of r)) is c.begin_term.ensures.reads in
     begun before mid after x y c.in_ok-cluster.cluster c.in_ok-next.next c.in_ok-cluster.root c.in_ok-cluster.infos c.in_ok-next.progress c.find.ensures.looked c.in_ok-cluster.ensures.answer fit c.in_ok-cluster.ensures.infos
-    (c.opened_worlds_are_in_order.ensures (now before) c.in_ok-cluster.cluster c.in_ok-cluster.root fit back c.in_ok-next.ensures.few) is c.in_ok-next.ensures.list c.in_ok-begin_term.ensures.swapped c.in_ok-begin_term.ensures.bounded c.in_ok-cluster.ensures.calls c.begin_term.ensures.calls
+    (c.opened_worlds_are_in_order.ensures (now before) c.in_ok-cluster.cluster c.in_ok-cluster.root fit back c.in_ok-next.ensures.few) is
+    c.in_ok-next.ensures.list c.in_ok-begin_term.ensures.swapped c.in_ok-begin_term.ensures.bounded c.in_ok-cluster.ensures.calls c.begin_term.ensures.calls
     c.begin_term.ensures.left
 
 pub returns-clause-listed : goal.returns-clause-listed
 returns-clause-listed g c = listed_of (now (g.D.Depot.look c.args.depot.now)) c.in_ok-cluster.root c.in_ok-cluster.infos c.in_ok-cluster.ensures.infos
+
+pub returns-clause-infos : goal.returns-clause-infos
+returns-clause-infos g c = c.in_ok-cluster.ensures.infos

@@ -18,5 +18,6 @@ returns-in_err-root-clause-answer g c =
     let x = g.D.Counted.faults c.args.depot.now in
     let y = g.D.Counted.faults c.find_root.new.depot in
     passed g.D.Fetch.Counted.faults held x y (λ (i : Image). whole_root_in i.blobs c.args.safe) (λ (o : Root × List Info). o.0) c.from_residual.result c.in_err-root.field-0.0 c.from_residual.ensures.1
-    (refused_first g.D.Fetch.Counted.faults held x y (λ (i : Image). root_in i.blobs safe) (λ (i : Image). whole_root_in i.blobs c.args.safe) c.in_err-root.field-0.0 (λ i o here fails. no_whole_root i.blobs c.args.safe o (ap (root_in i.blobs) (sym is) ∙ fails))
+    (refused_first g.D.Fetch.Counted.faults held x y (λ (i : Image). root_in i.blobs safe) (λ (i : Image). whole_root_in i.blobs c.args.safe) c.in_err-root.field-0.0
+    (λ i o here fails. no_whole_root i.blobs c.args.safe o (ap (root_in i.blobs) (sym is) ∙ fails))
     c.in_err-root.ensures.answer)

@@ -22,7 +22,8 @@ loop-delete-preserved c = elim c.if-lies_between.branch [
       w.in_ok-record_op.field-0 c.if-lies_between.ops (sym c.lies_between.ensures ∙ w.if-lies_between.true) w.in_ok-record_op.ensures.told (w.ops-is ∙ w.in_ok-push.ensures.ok) c.requires.rise
   | else-lies_between w ↦
       subst (ArePushed c.args.ops.now c.args.deletes.now c.args.after c.args.before (c.loop-delete.delete-index + 1)) (sym w.ops-is)
-      (passed c.args.ops.now c.args.deletes.now c.args.after c.args.before c.loop-delete.delete-index c.loop-delete.ops c.loop-delete.invariant c.delete-item.result c.loop-delete-test.true c.delete-item.is (sym c.lies_between.ensures ∙ w.if-lies_between.false))
+      (passed c.args.ops.now c.args.deletes.now c.args.after c.args.before c.loop-delete.delete-index c.loop-delete.ops c.loop-delete.invariant
+      c.delete-item.result c.loop-delete-test.true c.delete-item.is (sym c.lies_between.ensures ∙ w.if-lies_between.false))
 ]
 
 pub returns-clause-told : goal.returns-clause-told

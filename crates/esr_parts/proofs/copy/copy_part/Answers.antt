@@ -2,9 +2,10 @@ use Rattle.std.proofs.Common.{◌≡◌, ◌≤◌, ℕ, List, ◌++◌, take, d
 use Rattle.std.proofs.lemmas.List.{take-append-le, length-take, length-take-le}
 use Rattle.std.proofs.lemmas.Grind.{common_steps}
 use Rattle.std.specs.Io.KnownBytes.{append_known}
+use Rattle.std.proofs.KnownBytes.{Consumes-trans}
 use Rattle.esr_hash.specs.Fed.{HasFed}
 use Rattle.esr_parts.specs.Reads.{Fed}
-use Rattle.esr_parts.proofs.Pieces.{fed_more, stage_more, consumes_more, on_ok, read_on, steady_more}
+use Rattle.esr_parts.proofs.Pieces.{fed_more, stage_more, on_ok, read_on, steady_more}
 use Rattle.esr_parts.proofs.copy.copy_part.Goals as goal
 
 pub returns-in_default-clause-kept : goal.returns-in_default-clause-kept
@@ -69,6 +70,6 @@ loop-left-preserved g c =
       fed = fed_more c.args.hasher.now c.loop-left.hasher c.feed.new.self inv.piece piece inv.fed fed;
       stage_is = written ∙ ap (λ (bytes : List ℕ). append_known (g.W.Stage.contents c.loop-left.stage) bytes) same
           ∙ ap (λ o. append_known o piece) inv.stage_is ∙ stage_more (g.W.Stage.contents c.args.stage.now) inv.piece piece;
-      took = consumes_more (g.S.Shard.told c.args.shard.now).left (g.S.Shard.told c.loop-left.shard).left (g.S.Shard.told c.read.new.self).left inv.piece piece inv.took read.bytes.0;
+      took = Consumes-trans (g.S.Shard.told c.args.shard.now).left (g.S.Shard.told c.loop-left.shard).left (g.S.Shard.told c.read.new.self).left inv.piece piece inv.took read.bytes.0;
       count = omega (arith, inv.count, length-append inv.piece piece, len, left);
     }

@@ -2,10 +2,11 @@ use Rattle.std.proofs.Common.{◌≤◌, ℕ, List, [], ◌++◌, take, drop, le
 use Rattle.std.proofs.lemmas.List.{length-take, length-take-le, take-append-le}
 use Rattle.std.proofs.lemmas.Grind.{common_steps}
 use Rattle.std.specs.Io.KnownBytes.{Consumes}
+use Rattle.std.proofs.KnownBytes.{Consumes-trans, Consumes-nil}
 use Rattle.esr_hash.specs.Fed.{HasFed}
 use Rattle.esr_source.specs.Files.{bytes_at}
 use Rattle.esr_source.specs.Told.{ShardTold}
-use Rattle.esr_parts.proofs.Pieces.{consumes_none, consumes_more, read_on, read_start, steady_more}
+use Rattle.esr_parts.proofs.Pieces.{read_on, read_start, steady_more}
 use Rattle.esr_parts.proofs.hash.hash_file.Goals as goal
 
 pub returns-in_err-start-clause-kept : goal.returns-in_err-start-clause-kept
@@ -22,7 +23,7 @@ loop-left-init g c =
       steady = c.start.ensures.sure.count;
       bytes = [];
       fed = c.start-hasher.ensures;
-      took = subst (λ (t : ShardTold). Consumes (bytes_at files c.args.file) t.left []) (sym c.in_ok-start.ensures.ok) (consumes_none (bytes_at files c.args.file));
+      took = subst (λ (t : ShardTold). Consumes (bytes_at files c.args.file) t.left []) (sym c.in_ok-start.ensures.ok) (Consumes-nil (bytes_at files c.args.file));
       count = omega arith;
     }
 
@@ -54,6 +55,6 @@ loop-left-preserved g c =
           (g.S.Counted.faults c.read.new.self) inv.kept inv.steady read.sure;
       bytes = inv.bytes ++ piece;
       fed = subst (λ (xs : List ℕ). HasFed c.feed.new.self (inv.bytes ++ xs)) same (c.feed.ensures.joined inv.bytes inv.fed);
-      took = consumes_more (bytes_at (g.S.Shard.told c.args.shard.now).files c.args.file) (g.S.Shard.told c.loop-left.shard).left (g.S.Shard.told c.read.new.self).left inv.bytes piece inv.took read.bytes.0;
+      took = Consumes-trans (bytes_at (g.S.Shard.told c.args.shard.now).files c.args.file) (g.S.Shard.told c.loop-left.shard).left (g.S.Shard.told c.read.new.self).left inv.bytes piece inv.took read.bytes.0;
       count = omega (arith, inv.count, length-append inv.bytes piece, len, left);
     }

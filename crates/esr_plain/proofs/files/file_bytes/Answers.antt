@@ -16,7 +16,8 @@ use Rattle.esr_hash.specs.declared.print.Print.{Print}
 
 -- the parts of the file are joined to these bytes
 bytes_joined : (c : In-Some) → Always (λ f. IsJoined (At f c.args.image.now) c.args.shard.index.number c.args.shard.number (entry_of c.args.entry.now) c.in-Some.bytes)
-bytes_joined c = λ known told. exact_some (IsJoined (At (formats known told) c.args.image.now) c.args.shard.index.number c.args.shard.number (entry_of c.args.entry.now)) c.in_ok-bytes.field-0 c.in-Some.bytes c.in-Some.is (c.in_ok-bytes.ensures known told)
+bytes_joined c =
+    λ known told. exact_some (IsJoined (At (formats known told) c.args.image.now) c.args.shard.index.number c.args.shard.number (entry_of c.args.entry.now)) c.in_ok-bytes.field-0 c.in-Some.bytes c.in-Some.is (c.in_ok-bytes.ensures known told)
 
 -- only they may be the file
 same_bytes : (c : In-Some) → Always (λ f. (bytes : Bytes) → FileStands f (At f c.args.image.now) c.args.shard.index.number c.args.shard.number (entry_of c.args.entry.now) bytes → bytes ≡ c.in-Some.bytes)

@@ -45,7 +45,8 @@ loop-k-preserved c =
     let k = c.loop-k.k in
     let less = subst (λ (n : ℕ). k < n) c.part_count-count.ensures.count c.loop-k-test.true in
     let part = c.in-Some.part in
-    let cut : k + 1 < code_part_count e.print.len e.part_size → length part ≡ e.part_size = (λ more. sym (ap (λ (b : Bytes). length b) c.as_slice.ensures) ∙ so c.is_cut.result c.is_cut.ensures c.if-not-is_cut.false (subst (λ (n : ℕ). k + 1 < n) (sym c.part_count-count.ensures.count) more)) in
+    let cut : k + 1 < code_part_count e.print.len e.part_size → length part ≡ e.part_size =
+    (λ more. sym (ap (λ (b : Bytes). length b) c.as_slice.ensures) ∙ so c.is_cut.result c.is_cut.ensures c.if-not-is_cut.false (subst (λ (n : ℕ). k + 1 < n) (sym c.part_count-count.ensures.count) more)) in
     let bytes = c.in_ok-extend_from_slice.ensures.ok ∙ ap (λ (b : Bytes). c.loop-k.bytes ++ b) c.as_slice-in-loop-k.ensures in
     let begun = begun_more shard e k c.loop-k.bytes part less cut c.loop-k.invariant.0 in
     subst (λ (b : Bytes). (begun : Begun shard e (k + 1) b) × Always (λ f. IsThere (At f image) shard e (k + 1) begun.parts)) (sym bytes) (

@@ -41,7 +41,8 @@ returns-then-not-branch c = λ known told.
     let image = c.args.image.now in
     let shard = c.args.shard in
     let reads = held_reads (goal.at.returns-then-not-branch c).In-Some known told in
-    fails (index_lacks f (At f image) (root_of c.args.root.now) shard.index.number shard.number c.args.generation.number (at_one f image) (shard_index_of c.in-Some.held) reads (not_so c.in_ok-have_snaps.field-0 (c.in_ok-have_snaps.ensures known told) c.if-not-branch.true))
+    fails (index_lacks f (At f image) (root_of c.args.root.now) shard.index.number shard.number c.args.generation.number (at_one f image)
+    (shard_index_of c.in-Some.held) reads (not_so c.in_ok-have_snaps.field-0 (c.in_ok-have_snaps.ensures known told) c.if-not-branch.true))
 
 pub returns-in-Some-2 : goal.returns-in-Some-2
 returns-in-Some-2 c = λ known told.
@@ -51,7 +52,8 @@ returns-in-Some-2 c = λ known told.
     let s = c.args.shard.number in
     let reads = held_reads (goal.at.returns-in-Some-2 c).In-Some known told in
     let stored = exact_some (AllPairs (IsStored f has i s) (map entry_of c.files.result.now)) c.in_ok-stored_files.field-0 c.in-Some-2.field-0 c.in-Some-2.is (c.in_ok-stored_files.ensures known told) in
-    holds (index_with f has (root_of c.args.root.now) i s c.args.generation.number (shard_index_of c.in-Some.held) c.in-Some-2.field-0 reads (so c.are_below.result c.are_below.ensures c.if-not-are_below.false) (so c.in_ok-have_snaps.field-0 (c.in_ok-have_snaps.ensures known told) c.if-not-branch.false)
+    holds (index_with f has (root_of c.args.root.now) i s c.args.generation.number (shard_index_of c.in-Some.held) c.in-Some-2.field-0 reads
+    (so c.are_below.result c.are_below.ensures c.if-not-are_below.false) (so c.in_ok-have_snaps.field-0 (c.in_ok-have_snaps.ensures known told) c.if-not-branch.false)
     (subst (λ (es : List CodeEntry). AllPairs (IsStored f has i s) (map entry_of es) c.in-Some-2.field-0) c.files.ensures.files stored))
 
 pub returns : goal.returns

@@ -16,7 +16,8 @@ returns-in-Some c =
     let g = c.in-Some.generation.number in
     let is = ap (option_map number_of) c.in-Some.is in
     IfOk-weaker c.index_stands.result (λ b. Always (λ f. (b ≡ true → IndexStands f (At f c.args.image.now) (root_of c.args.root.now) i s g) × (IndexStands f (At f c.args.image.now) (root_of c.args.root.now) i s g → b ≡ true)))
-    (λ b. Always (λ f. (b ≡ true → PlaceStands f (At f c.args.image.now) (root_of c.args.root.now) i s (option_map number_of c.args.generation)) × (PlaceStands f (At f c.args.image.now) (root_of c.args.root.now) i s (option_map number_of c.args.generation) → b ≡ true)))
+    (λ b. Always (λ f. (b ≡ true → PlaceStands f (At f c.args.image.now) (root_of c.args.root.now) i s (option_map number_of c.args.generation))
+    × (PlaceStands f (At f c.args.image.now) (root_of c.args.root.now) i s (option_map number_of c.args.generation) → b ≡ true)))
     (λ b exact known told.
     let f = formats known told in
     exact_as b (exact known told) (place_stands f (At f c.args.image.now) (root_of c.args.root.now) i s g (option_map number_of c.args.generation) is) (λ all. all g is))

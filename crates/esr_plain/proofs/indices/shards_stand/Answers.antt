@@ -17,7 +17,8 @@ returns-then-not-branch c = λ known told.
     let i = c.args.index.now.id.number in
     let h : Option Id → Option ℕ = option_map number_of in
     fails (λ all. not_so c.in_ok-shard_stands.field-0 (c.in_ok-shard_stands.ensures known told) c.if-not-branch.true
-    (place_of_all f has root i h c.as_slice-generation-items.result.now c.loop-number.number _ c.loop-number-test.true (subst (λ (gs : List (Option Id)). (j g : ℕ) → at_shard (map h gs) j ≡ Some g → IndexStands f has root i j g) (sym c.as_slice-generation-items.ensures.items) all)))
+    (place_of_all f has root i h c.as_slice-generation-items.result.now c.loop-number.number _ c.loop-number-test.true
+    (subst (λ (gs : List (Option Id)). (j g : ℕ) → at_shard (map h gs) j ≡ Some g → IndexStands f has root i j g) (sym c.as_slice-generation-items.ensures.items) all)))
 
 pub loop-number-preserved : goal.loop-number-preserved
 loop-number-preserved c = λ known told.
@@ -26,7 +27,8 @@ loop-number-preserved c = λ known told.
     let root = root_of c.args.root.now in
     let i = c.args.index.now.id.number in
     let h : Option Id → Option ℕ = option_map number_of in
-    places_more f has root i h c.as_slice-generation-items.result.now c.loop-number.number _ c.loop-number-test.true (c.loop-number.invariant known told) (so c.in_ok-shard_stands.field-0 (c.in_ok-shard_stands.ensures known told) c.if-not-branch.false)
+    places_more f has root i h c.as_slice-generation-items.result.now c.loop-number.number _ c.loop-number-test.true
+    (c.loop-number.invariant known told) (so c.in_ok-shard_stands.field-0 (c.in_ok-shard_stands.ensures known told) c.if-not-branch.false)
 
 pub returns : goal.returns
 returns c = λ known told.

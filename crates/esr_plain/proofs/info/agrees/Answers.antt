@@ -21,7 +21,8 @@ returns c =
     let listed = subst (λ (rs : List CodeRef). AreListed root snap.uuid (map ref_of_code rs)) indices (so c.are_listed.result c.are_listed.ensures c.if-not-are_listed.false) in
     let exact = subst (λ (rs : List CodeRef). AreExact root snap.uuid (map ref_of_code rs)) indices (so c.are_exact.result c.are_exact.ensures c.if-not-are_exact.false) in
     IfOk-weaker c.have_metas.result
-    (λ b. Always (λ f. (b ≡ true → HaveMetas f (At f c.args.image.now) snap.uuid (map ref_of_code c.as_slice-indices.result.now)) × (HaveMetas f (At f c.args.image.now) snap.uuid (map ref_of_code c.as_slice-indices.result.now) → b ≡ true)))
+    (λ b.
+    Always (λ f. (b ≡ true → HaveMetas f (At f c.args.image.now) snap.uuid (map ref_of_code c.as_slice-indices.result.now)) × (HaveMetas f (At f c.args.image.now) snap.uuid (map ref_of_code c.as_slice-indices.result.now) → b ≡ true)))
     (λ b. Always (λ f. (b ≡ true → Agrees f (At f c.args.image.now) root snap info) × (Agrees f (At f c.args.image.now) root snap info → b ≡ true)))
     (λ b test known told.
     let f = formats known told in

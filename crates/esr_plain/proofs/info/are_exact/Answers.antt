@@ -19,5 +19,6 @@ returns-then-not-is_exact c =
 
 pub loop-listed-preserved : goal.loop-listed-preserved
 loop-listed-preserved c =
-    every_more (λ (x : RootIndex). Has x.snapshots c.args.uuid.number → IsReferred (map ref_of_code c.args.indices.now) x) root_index_of c.as_slice-listed-items.result.now c.loop-listed.listed-index c.listed-item.result c.loop-listed-test.true c.listed-item.is c.loop-listed.invariant
+    every_more (λ (x : RootIndex). Has x.snapshots c.args.uuid.number → IsReferred (map ref_of_code c.args.indices.now) x) root_index_of
+    c.as_slice-listed-items.result.now c.loop-listed.listed-index c.listed-item.result c.loop-listed-test.true c.listed-item.is c.loop-listed.invariant
     (so c.is_exact.result c.is_exact.ensures c.if-not-is_exact.false)

@@ -17,4 +17,5 @@ returns-in-Some c = λ known told.
 
 pub returns-in-None : goal.returns-in-None
 returns-in-None c = λ known told.
-    fails (was_unread (λ f. f.index_meta) index_meta_of c.args.image.now (IndexMeta c.args.index.now.id.number c.args.uuid.number) c.in_ok-meta.field-0 c.in_ok-meta.ensures c.in-None.is known told (record { index = ref_of_code c.args.index.now; uuid = c.args.uuid.number }))
+    fails (was_unread (λ f. f.index_meta) index_meta_of c.args.image.now (IndexMeta c.args.index.now.id.number c.args.uuid.number) c.in_ok-meta.field-0 c.in_ok-meta.ensures c.in-None.is known told
+    (record { index = ref_of_code c.args.index.now; uuid = c.args.uuid.number }))

@@ -15,5 +15,6 @@ returns-then-not-branch c = λ known told.
 pub loop-index-preserved : goal.loop-index-preserved
 loop-index-preserved c = λ known told.
     let f = formats known told in
-    every_more (λ (r : IndexRef). Reads (At f c.args.image.now) (IndexMeta r.id c.args.uuid.number) f.index_meta (record { index = r; uuid = c.args.uuid.number })) ref_of_code c.args.indices.now c.loop-index.index-index c.index-item.result c.loop-index-test.true c.index-item.is
+    every_more (λ (r : IndexRef). Reads (At f c.args.image.now) (IndexMeta r.id c.args.uuid.number) f.index_meta (record { index = r; uuid = c.args.uuid.number }))
+    ref_of_code c.args.indices.now c.loop-index.index-index c.index-item.result c.loop-index-test.true c.index-item.is
     (c.loop-index.invariant known told) (so c.in_ok-has_meta.field-0 (c.in_ok-has_meta.ensures known told) c.if-not-branch.false)

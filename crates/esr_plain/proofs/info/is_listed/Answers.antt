@@ -20,5 +20,6 @@ returns-then-is_index_of c =
 
 pub loop-listed-preserved : goal.loop-listed-preserved
 loop-listed-preserved c =
-    every_more (λ (x : RootIndex). IsIndexOf c.args.uuid.number (ref_of_code c.args.index.now) x → ⊥) root_index_of c.as_slice-listed-items.result.now c.loop-listed.listed-index c.listed-item.result c.loop-listed-test.true c.listed-item.is c.loop-listed.invariant
+    every_more (λ (x : RootIndex). IsIndexOf c.args.uuid.number (ref_of_code c.args.index.now) x → ⊥) root_index_of
+    c.as_slice-listed-items.result.now c.loop-listed.listed-index c.listed-item.result c.loop-listed-test.true c.listed-item.is c.loop-listed.invariant
     (not_so c.is_index_of.result c.is_index_of.ensures c.if-is_index_of.false)

@@ -19,11 +19,13 @@ returns-then-not-branch c = λ known told.
 pub loop-list-preserved : goal.loop-list-preserved
 loop-list-preserved c = λ known told.
     let f = formats known told in
-    every_more (λ (x : SnapList). HasSnap f (At f c.args.image.now) (root_of c.args.root.now) c.args.shard.index.number c.args.shard.number x.uuid) snap_list_of c.snapshots-list-items.result.now c.loop-list.list-index c.list-item.result c.loop-list-test.true c.list-item.is (c.loop-list.invariant known told)
+    every_more (λ (x : SnapList). HasSnap f (At f c.args.image.now) (root_of c.args.root.now) c.args.shard.index.number c.args.shard.number x.uuid) snap_list_of
+    c.snapshots-list-items.result.now c.loop-list.list-index c.list-item.result c.loop-list-test.true c.list-item.is (c.loop-list.invariant known told)
     (so c.in_ok-has_snap.field-0 (c.in_ok-has_snap.ensures known told) c.if-not-branch.false)
 
 pub returns : goal.returns
 returns c = λ known told.
     let f = formats known told in
-    let each = every_all (λ (x : SnapList). HasSnap f (At f c.args.image.now) (root_of c.args.root.now) c.args.shard.index.number c.args.shard.number x.uuid) snap_list_of c.snapshots-list-items.result.now c.loop-list.list-index c.loop-list-test.false (c.loop-list.invariant known told) in
+    let each = every_all (λ (x : SnapList). HasSnap f (At f c.args.image.now) (root_of c.args.root.now) c.args.shard.index.number c.args.shard.number x.uuid)
+    snap_list_of c.snapshots-list-items.result.now c.loop-list.list-index c.loop-list-test.false (c.loop-list.invariant known told) in
     holds (subst (λ (ls : List CodeList). (x : SnapList) → Has (map snap_list_of ls) x → HasSnap f (At f c.args.image.now) (root_of c.args.root.now) c.args.shard.index.number c.args.shard.number x.uuid) c.snapshots-list-items.ensures each)

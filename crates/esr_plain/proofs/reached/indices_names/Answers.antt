@@ -13,7 +13,8 @@ loop-index-preserved c = λ known told.
     let f = formats known told in
     let of = OfIndex f (At f c.args.image.now) (map root_snap_of c.args.snaps.now) in
     let made = joined_by c.loop-index.names c.extend_from_slice.new.self c.in_ok-more.more (c.in_ok-extend_from_slice.ensures.ok ∙ ap (λ (more : List CodeName). c.loop-index.names ++ more) c.as_slice.ensures) in
-    some_more of root_index_of c.args.indices.now c.loop-index.index-index c.index-item.result c.loop-index.names c.extend_from_slice.new.self (map name_of c.in_ok-more.more) c.loop-index-test.true c.index-item.is made (c.loop-index.invariant known told)
+    some_more of root_index_of c.args.indices.now c.loop-index.index-index c.index-item.result c.loop-index.names c.extend_from_slice.new.self
+    (map name_of c.in_ok-more.more) c.loop-index-test.true c.index-item.is made (c.loop-index.invariant known told)
     (c.in_ok-more.ensures known told)
 
 pub returns : goal.returns

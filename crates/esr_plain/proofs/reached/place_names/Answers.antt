@@ -16,7 +16,8 @@ returns-in-Some c =
     let g = c.in-Some.generation.number in
     let snaps = map root_snap_of c.args.snaps.now in
     let is = ap (option_map number_of) c.in-Some.is in
-    IfOk-weaker c.shard_names.result (λ names. Always (λ f. AreNames names (OfShard f (At f c.args.image.now) snaps i s g))) (λ names. Always (λ f. AreNames names (OfPlace f (At f c.args.image.now) snaps i s (option_map number_of c.args.generation))))
+    IfOk-weaker c.shard_names.result (λ names. Always (λ f. AreNames names (OfShard f (At f c.args.image.now) snaps i s g)))
+    (λ names. Always (λ f. AreNames names (OfPlace f (At f c.args.image.now) snaps i s (option_map number_of c.args.generation))))
     (λ names are known told.
     let f = formats known told in
     subst (λ (o : Option ℕ). AreNames names (OfPlace f (At f c.args.image.now) snaps i s o)) (sym is) (place_some f (At f c.args.image.now) snaps i s g names (are known told)))

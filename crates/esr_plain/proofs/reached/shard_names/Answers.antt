@@ -17,7 +17,8 @@ use Rattle.esr_plain.proofs.reached.shard_names.Goals as goal
 pub returns-in_default : goal.returns-in_default
 returns-in_default c =
     let own = code.ShardIndex c.args.shard c.args.generation in
-    IfOk-weaker c.from_slice.result (λ names. names ≡ own ∷ []) (λ names. Always (λ f. AreNames names (OfShard f (At f c.args.image.now) (map root_snap_of c.args.snaps.now) c.args.shard.index.number c.args.shard.number c.args.generation.number)))
+    IfOk-weaker c.from_slice.result (λ names. names ≡ own ∷ [])
+    (λ names. Always (λ f. AreNames names (OfShard f (At f c.args.image.now) (map root_snap_of c.args.snaps.now) c.args.shard.index.number c.args.shard.number c.args.generation.number)))
     (λ names is known told.
     let f = formats known told in
     let has = At f c.args.image.now in

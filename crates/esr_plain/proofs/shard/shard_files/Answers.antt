@@ -3,6 +3,7 @@ use Rattle.std.proofs.lemmas.Result.{IfOk-weaker}
 use Rattle.std.specs.List.{AllByRecursion}
 use Rattle.esr_shardidx.specs.declared.entry.FileEntry.{FileEntry as CodeEntry}
 use Rattle.esr_shardidx.specs.Entries.{IsEntry}
+use Rattle.esr_shardidx.specs.RoundTrip.{entries_of}
 use Rattle.esr_formats.specs.Shards.{entry_of, shard_snap_of, shard_index_of}
 use Rattle.esr_formats.specs.Formats.{formats}
 use Rattle.esr_model.specs.Names.{ShardSnap, ShardIndex}
@@ -11,7 +12,6 @@ use Rattle.esr_plain.specs.Exactly.{Always, IsExactly}
 use Rattle.esr_plain.specs.Joined.{IsStored, HasFiles}
 use Rattle.esr_plain.proofs.Loops.{so, not_so}
 use Rattle.esr_plain.proofs.Blobs.{at_one, was_read, was_unread}
-use Rattle.esr_plain.proofs.Stored.{each_entry}
 use Rattle.esr_plain.proofs.Shards.{no_snap, no_index, not_listed, files_exact}
 use Rattle.esr_plain.proofs.shard.shard_files.Goals.{In-Some, In-Some-2}
 use Rattle.esr_plain.proofs.shard.shard_files.Goals as goal
@@ -52,7 +52,7 @@ returns-then-not-lists c = λ known told.
     (snap_reads (goal.at.returns-then-not-lists c).In-Some known told) (held_reads (goal.at.returns-then-not-lists c).In-Some-2 known told) none
 
 pub stored_files-requires : goal.stored_files-requires
-stored_files-requires c = subst (AllByRecursion IsEntry) (sym c.files-2.ensures.files) (each_entry [] c.in-Some.snap.files c.files-2.ensures.whole.files)
+stored_files-requires c = subst (AllByRecursion IsEntry) (sym c.files-2.ensures.files) (entries_of [] c.in-Some.snap.files c.files-2.ensures.whole.files)
 
 pub returns : goal.returns
 returns c =

@@ -8,7 +8,8 @@ use Rattle.esr_progress.proofs.ready.generation.Goals as goal
 
 pub loop-op-preserved : goal.loop-op-preserved
 loop-op-preserved c =
-    done_step c.args.shard.index.number c.args.shard.number c.args.ops.now c.loop-op.op-index c.op-item.result c.loop-op.most c.generation.result c.later-most.result c.loop-op-test.true c.loop-op.invariant c.op-item.is c.generation.ensures c.later-most.ensures
+    done_step c.args.shard.index.number c.args.shard.number c.args.ops.now c.loop-op.op-index c.op-item.result c.loop-op.most
+    c.generation.result c.later-most.result c.loop-op-test.true c.loop-op.invariant c.op-item.is c.generation.ensures c.later-most.ensures
 
 pub returns : goal.returns
 returns c =

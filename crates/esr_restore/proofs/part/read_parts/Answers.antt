@@ -121,7 +121,8 @@ returns-clause-read g c =
     let s = g.Q.Desk.start in
     let e = c.args.entry.now in
     let last : c.loop-number.number ≡ c.part_count-number-end.result = omega (arith, c.loop-number.auto.number-end, c.loop-number-test.false) in
-    so_far_all s (reader_of s (g.Q.Desk.seen c.loop-number.desk) c.args.job.ticket) c.loop-number.hasher (g.Q.Target.Target.told c.args.target.now).begun (g.Q.Target.Target.told c.loop-number.target).begun c.args.job.at e c.loop-number.number c.loop-number.is_exact
+    so_far_all s (reader_of s (g.Q.Desk.seen c.loop-number.desk) c.args.job.ticket) c.loop-number.hasher (g.Q.Target.Target.told c.args.target.now).begun
+    (g.Q.Target.Target.told c.loop-number.target).begun c.args.job.at e c.loop-number.number c.loop-number.is_exact
     c.requires.entry.least (last ∙ c.part_count-number-end.ensures.count) inv.so_far
 
 pub read_part-requires-clause-new : goal.read_part-requires-clause-new

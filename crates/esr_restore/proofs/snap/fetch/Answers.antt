@@ -7,9 +7,10 @@ use Rattle.esr_desk.specs.Outcome.{fetch_reply}
 use Rattle.esr_desk.specs.Grew.{outcome_grew_by}
 use Rattle.esr_desk.specs.Made.{read_once}
 use Rattle.esr_unit.specs.declared.trouble.Trouble.TheVariants.{Step}
+use Rattle.esr_unit.specs.Refusals.{passed_on}
 use Rattle.esr_restore.specs.Trouble.{IsTrouble}
 use Rattle.esr_restore.specs.Went.{Went}
-use Rattle.esr_restore.proofs.Going.{passed, went_same, read_went}
+use Rattle.esr_restore.proofs.Going.{went_same, read_went}
 use Rattle.esr_restore.proofs.Reading.{was_absent, was_fetched, has_come}
 use Rattle.esr_restore.proofs.Ending.{fetch_trouble}
 use Rattle.esr_restore.proofs.snap.fetch.Goals.{In_ok-fetch}
@@ -24,7 +25,7 @@ returns-in_err-fetch-clause-trouble g c =
     let name = name_of c.args.name in
     let e = evidence g.Q.Stage.Counted.faults g.Q.Fetch.Counted.faults g.Q.Shard.Counted.faults g.Q.Target.Counted.faults g.Q.Shard.Shard.told g.Q.Target.Target.told in
     let refusal = c.in_err-fetch.field-0.0 in
-    passed c.from_residual.result (λ trouble. (n : ℕ) (sure : Bool) → IsTrouble e n sure s new who trouble) (Step refusal) c.from_residual.ensures.1
+    passed_on c.from_residual.result (λ trouble. (n : ℕ) (sure : Bool) → IsTrouble e n sure s new who trouble) (Step refusal) c.from_residual.ensures.1
     (λ (n : ℕ) (sure : Bool). fetch_trouble e c.refusals_are_of_their_steps.ensures s old new who name (ap (λ (x : Own). x.reader.out) c.in_err-fetch.ensures.kept ∙ c.requires.may.out) n sure refusal c.in_err-fetch.ensures.step)
 
 pub returns-in_err-fetch-clause-went : goal.returns-in_err-fetch-clause-went
@@ -53,7 +54,8 @@ fetch_went g c =
 
 pub returns-in-Some-clause-came : goal.returns-in-Some-clause-came
 returns-in-Some-clause-came g c =
-    has_come g.Q.Fetch.Fetch.left g.Q.Fetch.Fetch.is_sure c.in_ok-fetch.field-0 c.in-Some.fetch g.Q.Desk.start (g.Q.Desk.seen c.args.desk.now) (g.Q.Desk.seen c.fetch.new.self) c.args.ticket (name_of c.args.name) c.in-Some.is c.in_ok-fetch.ensures.told c.in_ok-fetch.ensures.sure c.in_ok-fetch.ensures.own
+    has_come g.Q.Fetch.Fetch.left g.Q.Fetch.Fetch.is_sure c.in_ok-fetch.field-0 c.in-Some.fetch g.Q.Desk.start (g.Q.Desk.seen c.args.desk.now)
+    (g.Q.Desk.seen c.fetch.new.self) c.args.ticket (name_of c.args.name) c.in-Some.is c.in_ok-fetch.ensures.told c.in_ok-fetch.ensures.sure c.in_ok-fetch.ensures.own
 
 pub returns-in-Some-clause-found : goal.returns-in-Some-clause-found
 returns-in-Some-clause-found g c =

@@ -5,8 +5,9 @@ use Rattle.esr_desk.specs.Own.{reader_of}
 use Rattle.esr_desk.specs.Outcome.{fetch_reply}
 use Rattle.esr_desk.specs.Start.{told_bytes}
 use Rattle.esr_desk.specs.Made.{read_once}
+use Rattle.esr_unit.specs.Refusals.{passed_on}
 use Rattle.esr_restore.specs.Trouble.{IsTrouble}
-use Rattle.esr_restore.proofs.Going.{passed, read_went, left_went, went_at}
+use Rattle.esr_restore.proofs.Going.{read_went, left_went, went_at}
 use Rattle.esr_restore.proofs.Reading.{snap_name, can_snap, was_absent, was_fetched, read_whole}
 use Rattle.esr_restore.proofs.Ending.{whole_trouble}
 use Rattle.esr_restore.proofs.snap.fetch_bytes.Goals as goal
@@ -32,7 +33,7 @@ returns-in_err-bytes-clause-trouble g c =
     let trouble = c.in_err-bytes.field-0.0 in
     let went = left_went s old new who name c.fetch_whole.ensures.grew c.in_err-bytes.ensures.left in
     let out = (went_at s old new who c.args.job.at.index.number c.args.job.at.number c.args.job.uuid.number went c.requires.at).out in
-    passed c.from_residual.result (λ x. (n : ℕ) (sure : Bool) → IsTrouble e n sure s new who x) trouble c.from_residual.ensures.1
+    passed_on c.from_residual.result (λ x. (n : ℕ) (sure : Bool) → IsTrouble e n sure s new who x) trouble c.from_residual.ensures.1
     (λ (n : ℕ) (sure : Bool). whole_trouble e c.refusals_are_of_their_steps.ensures s old new who name out n sure trouble c.in_err-bytes.ensures.trouble)
 
 pub returns-in_err-bytes-clause-went : goal.returns-in_err-bytes-clause-went

@@ -20,5 +20,6 @@ returns-clause-trouble g c =
     let who = c.args.job.ticket in
     let old = g.Q.Desk.seen c.args.desk.now in
     let new = g.Q.Desk.seen c.fetch_bytes.new.desk in
-    snap_unread (evidence g.Q.Stage.Counted.faults g.Q.Fetch.Counted.faults g.Q.Shard.Counted.faults g.Q.Target.Counted.faults g.Q.Shard.Shard.told g.Q.Target.Target.told) s old new who c.args.job.at c.args.job.uuid c.in_ok-bytes.bytes c.as_slice.result.now c.requires.at
+    snap_unread (evidence g.Q.Stage.Counted.faults g.Q.Fetch.Counted.faults g.Q.Shard.Counted.faults g.Q.Target.Counted.faults g.Q.Shard.Shard.told g.Q.Target.Target.told)
+    s old new who c.args.job.at c.args.job.uuid c.in_ok-bytes.bytes c.as_slice.result.now c.requires.at
     c.in_ok-bytes.ensures.fetched c.in_ok-bytes.ensures.found c.as_slice.ensures c.in-Err.refusal c.unread.result c.unread.ensures c.in-Err.ensures.reason

@@ -66,7 +66,8 @@ give_up-requires-in-Own-clause-shown g c κs within =
     let who = c.args.ticket in
     let old = g.Q.Desk.seen c.args.desk.now in
     let target = c.args.target in
-    target_shown e s old who target (own_faulty e (g.Q.Target.Counted.faults target) (g.Q.Target.Target.told target).is_sure s old who c.args.trouble c.requires.trouble c.ending_of.result c.ending_of.ensures c.in-Own.is) c.requires.sure c.requires.of c.requires.first
+    target_shown e s old who target
+    (own_faulty e (g.Q.Target.Counted.faults target) (g.Q.Target.Target.told target).is_sure s old who c.args.trouble c.requires.trouble c.ending_of.result c.ending_of.ensures c.in-Own.is) c.requires.sure c.requires.of c.requires.first
 
 pub give_up-requires-in-Own-clause-present : goal.give_up-requires-in-Own-clause-present
 give_up-requires-in-Own-clause-present g c κs within =

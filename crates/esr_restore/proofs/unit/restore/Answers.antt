@@ -1,15 +1,16 @@
 use Rattle.std.proofs.Common.{◌∙◌}
 use Rattle.esr_desk.specs.Own.{reader_of}
 use Rattle.esr_restore.specs.Trouble.{IsTrouble}
-use Rattle.esr_restore.proofs.Going.{passed, went_on, still_mine}
+use Rattle.esr_restore.proofs.Going.{went_on, still_mine}
 use Rattle.esr_restore.proofs.Reading.{snap_more}
 use Rattle.esr_model.specs.Names.{ShardSnap}
 use Rattle.esr_desk.specs.Restore.First.{HasFirst}
 use Rattle.esr_core.specs.Entry.{ReadBlob, ReadStep}
 use Rattle.esr_desk.specs.Evidence.{evidence}
 use Rattle.esr_desk.specs.Made.{none_fresh}
+use Rattle.esr_unit.specs.Refusals.{passed_on, on_err}
 use Rattle.esr_restore.proofs.Once.{files_unread}
-use Rattle.esr_restore.proofs.Left.{any_err, first_none}
+use Rattle.esr_restore.proofs.Left.{first_none}
 use Rattle.esr_restore.proofs.unit.restore.Goals as goal
 
 pub returns-in_err-snap-clause-trouble : goal.returns-in_err-snap-clause-trouble
@@ -17,23 +18,26 @@ returns-in_err-snap-clause-trouble g c =
     let s = g.Q.Desk.start in
     let count = g.Q.Target.Counted.faults c.args.target.now in
     let sure = (g.Q.Target.Target.told c.args.target.now).is_sure in
-    passed c.from_residual.result (IsTrouble (evidence g.Q.Stage.Counted.faults g.Q.Fetch.Counted.faults g.Q.Shard.Counted.faults g.Q.Target.Counted.faults g.Q.Shard.Shard.told g.Q.Target.Target.told) count sure s (g.Q.Desk.seen c.fetch_snap.new.desk) c.args.job.ticket) c.in_err-snap.field-0.0 c.from_residual.ensures.1 (c.in_err-snap.ensures.trouble count sure)
+    passed_on c.from_residual.result
+    (IsTrouble (evidence g.Q.Stage.Counted.faults g.Q.Fetch.Counted.faults g.Q.Shard.Counted.faults g.Q.Target.Counted.faults g.Q.Shard.Shard.told g.Q.Target.Target.told) count sure s (g.Q.Desk.seen c.fetch_snap.new.desk) c.args.job.ticket)
+    c.in_err-snap.field-0.0 c.from_residual.ensures.1 (c.in_err-snap.ensures.trouble count sure)
 
 pub returns-in_err-snap-clause-first : goal.returns-in_err-snap-clause-first
 returns-in_err-snap-clause-first g c =
     let s = g.Q.Desk.start in
     let q = reader_of s (g.Q.Desk.seen c.fetch_snap.new.desk) c.args.job.ticket in
     let files = (g.Q.Target.Target.told c.args.target.now).files in
-    any_err c.from_residual.result (HasFirst s q files) (first_none s q files c.requires.empty)
+    on_err c.from_residual.result (HasFirst s q files) (first_none s q files c.requires.empty)
 
 pub returns-in_err-restore_files-clause-first : goal.returns-in_err-restore_files-clause-first
 returns-in_err-restore_files-clause-first g c =
     let s = g.Q.Desk.start in
     let q = reader_of s (g.Q.Desk.seen c.restore_files.new.desk) c.args.job.ticket in
-    any_err c.from_residual-in_err-restore_files.result (HasFirst s q (g.Q.Target.Target.told c.restore_files.new.target).files) c.in_err-restore_files.ensures.first
+    on_err c.from_residual-in_err-restore_files.result (HasFirst s q (g.Q.Target.Target.told c.restore_files.new.target).files) c.in_err-restore_files.ensures.first
 
 pub returns-in_err-restore_files-clause-went : goal.returns-in_err-restore_files-clause-went
-returns-in_err-restore_files-clause-went g c = went_on g.Q.Desk.start (g.Q.Desk.seen c.args.desk.now) (g.Q.Desk.seen c.fetch_snap.new.desk) (g.Q.Desk.seen c.restore_files.new.desk) c.args.job.ticket c.fetch_snap.ensures.went c.restore_files.ensures.went
+returns-in_err-restore_files-clause-went g c =
+    went_on g.Q.Desk.start (g.Q.Desk.seen c.args.desk.now) (g.Q.Desk.seen c.fetch_snap.new.desk) (g.Q.Desk.seen c.restore_files.new.desk) c.args.job.ticket c.fetch_snap.ensures.went c.restore_files.ensures.went
 
 pub returns-clause-went : goal.returns-clause-went
 returns-clause-went g c = went_on g.Q.Desk.start (g.Q.Desk.seen c.args.desk.now) (g.Q.Desk.seen c.fetch_snap.new.desk) (g.Q.Desk.seen c.restore_files.new.desk) c.args.job.ticket c.fetch_snap.ensures.went c.restore_files.ensures.went
@@ -60,7 +64,8 @@ pub restore_files-requires-clause-new : goal.restore_files-requires-clause-new
 restore_files-requires-clause-new g c κs within =
     let s = g.Q.Desk.start in
     let old = g.Q.Desk.seen c.args.desk.now in
-    files_unread s old (g.Q.Desk.seen c.fetch_snap.new.desk) c.args.job.ticket c.args.job.at c.args.job.uuid.number c.in_ok-snap.snap.files (λ name. none_fresh s old c.args.job.ticket (ReadStep (ReadBlob name)) c.requires.new) c.in_ok-snap.ensures.reads
+    files_unread s old (g.Q.Desk.seen c.fetch_snap.new.desk) c.args.job.ticket c.args.job.at c.args.job.uuid.number c.in_ok-snap.snap.files
+    (λ name. none_fresh s old c.args.job.ticket (ReadStep (ReadBlob name)) c.requires.new) c.in_ok-snap.ensures.reads
 
 pub returns-clause-begun : goal.returns-clause-begun
 returns-clause-begun g c = c.in_ok-restore_files.ensures.begun

@@ -81,7 +81,8 @@ for_shard g c =
     let made = g.Q.Target.Target.told c.restore.new.target in
     let made_is : made.made_for ≡ address r.place r.index r.at.number =
     c.restore.ensures.made_for ∙ c.in-Ok.ensures.made_for ∙ ap (λ (p : Bytes). address p c.as_str-2.result.now r.at.number) c.as_str.ensures.text ∙ ap (λ (n : Bytes). address r.place n r.at.number) c.as_str-2.ensures.text in
-    took_of ready.work ready.op (reader_of s (g.Q.Desk.seen c.args.desk.now) ready.ticket) (reader_of s (g.Q.Desk.seen c.restore.new.desk) ready.ticket) r.uuid r.at r.index r.place made.made_for (sym c.into_work-work.ensures ∙ r.is) c.requires.fresh made_is
+    took_of ready.work ready.op (reader_of s (g.Q.Desk.seen c.args.desk.now) ready.ticket)
+    (reader_of s (g.Q.Desk.seen c.restore.new.desk) ready.ticket) r.uuid r.at r.index r.place made.made_for (sym c.into_work-work.ensures ∙ r.is) c.requires.fresh made_is
     c.restore.ensures.went.worked
 
 pub finish-requires-clause-mine : goal.finish-requires-clause-mine
@@ -117,12 +118,14 @@ finish_grew g c =
     let who = c.args.unit.ready.ticket in
     let mid = g.Q.Desk.seen c.restore.new.desk in
     let new = g.Q.Desk.seen c.finish.new.desk in
-    grew_by_on s who (g.Q.Desk.seen c.args.desk.now) mid new c.restore.ensures.went.grew (outcome_grew_by s mid new who (ReadStep (RestoredShard (length c.in-Ok-restore.snap.files) (sum_files c.in-Ok-restore.snap.files))) (λ x. HasEnded) (refused_of c.finish.result) c.finish.ensures.step)
+    grew_by_on s who (g.Q.Desk.seen c.args.desk.now) mid new c.restore.ensures.went.grew
+    (outcome_grew_by s mid new who (ReadStep (RestoredShard (length c.in-Ok-restore.snap.files) (sum_files c.in-Ok-restore.snap.files))) (λ x. HasEnded) (refused_of c.finish.result) c.finish.ensures.step)
 
 pub returns-in-Ok-finish-clause-ok : goal.returns-in-Ok-finish-clause-ok
 returns-in-Ok-finish-clause-ok g c =
     let snap = c.in-Ok-restore.snap in
-    has_restored g.Q.Desk.start (g.Q.Desk.seen c.args.desk.now) (g.Q.Desk.seen c.restore.new.desk) (g.Q.Desk.seen c.finish.new.desk) c.args.unit.ready.ticket (length snap.files) (sum_files snap.files) c.restore.ensures.went.worked c.in-Ok-finish.ensures.step c.in-Ok-finish.ensures.own
+    has_restored g.Q.Desk.start (g.Q.Desk.seen c.args.desk.now) (g.Q.Desk.seen c.restore.new.desk) (g.Q.Desk.seen c.finish.new.desk) c.args.unit.ready.ticket
+    (length snap.files) (sum_files snap.files) c.restore.ensures.went.worked c.in-Ok-finish.ensures.step c.in-Ok-finish.ensures.own
 
 pub returns-in-Ok-finish-clause-grew : goal.returns-in-Ok-finish-clause-grew
 returns-in-Ok-finish-clause-grew g c = finish_grew g (goal.at.returns-in-Ok-finish-clause-grew g c).After-finish
@@ -158,7 +161,8 @@ returns-in-Ok-restore-clause-left g c =
     let target = c.restore.new.target in
     left_unended g.Q.Target.Target.told s mid (g.Q.Desk.seen c.finish.new.desk) ready.ticket c.give_back.result.refusal (record { op = ready.op; index = r.index; shard = r.at.number; target = target }) failed.unended.target c.give_back.result.target
     (for_shard g (goal.at.returns-in-Ok-restore-clause-left g c).After-restore)
-    (first_all s mid r.at r.uuid.number c.in-Ok-restore.snap (g.Q.Target.Target.told c.in-Ok.target).files (g.Q.Target.Target.told target).files (still_at g (goal.at.returns-in-Ok-restore-clause-left g c).After-restore) c.in-Ok-restore.ensures.snap c.in-Ok-restore.ensures.restored)
+    (first_all s mid r.at r.uuid.number c.in-Ok-restore.snap (g.Q.Target.Target.told c.in-Ok.target).files (g.Q.Target.Target.told target).files
+    (still_at g (goal.at.returns-in-Ok-restore-clause-left g c).After-restore) c.in-Ok-restore.ensures.snap c.in-Ok-restore.ensures.restored)
     failed.ensures.kept failed.ensures.target c.give_back.ensures.target
 
 pub returns-in-Ok-restore-clause-grew : goal.returns-in-Ok-restore-clause-grew

@@ -21,7 +21,8 @@ loop-index-preserved c =
     let rest : List RootIndex = drop (c.loop-index.index-index + 1) c.args.indices.now in
     let name : string_bytes c.in_ok-name.name ≡ item.name = c.in_ok-name.ensures.ok ∙ c.as_str.ensures.text in
     let entries : members_view c.insert.new.self.entries ≡ put item.name (index_data item) old =
-    ap members_view c.in_ok-insert.ensures.entries ∙ members_view-insert_entry c.loop-index.members.entries c.in_ok-name.name c.in_ok-index_value.field-0 ∙ ap (λ (k : List ℕ). put k (view c.in_ok-index_value.field-0) old) name ∙ ap (λ (d : Data). put item.name d old) c.in_ok-index_value.ensures in
+    ap members_view c.in_ok-insert.ensures.entries ∙ members_view-insert_entry c.loop-index.members.entries c.in_ok-name.name c.in_ok-index_value.field-0
+    ∙ ap (λ (k : List ℕ). put k (view c.in_ok-index_value.field-0) old) name ∙ ap (λ (d : Data). put item.name d old) c.in_ok-index_value.ensures in
     c.loop-index.invariant ∙ turn ∙ ap (λ (x : RootIndex). with_indices old (x ∷ rest)) (sym c.index-item.is)
     ∙ ap (λ (m : Members). with_indices m rest) (sym entries)
 

@@ -16,11 +16,13 @@ ask-requires g c = subst (λ (r : Result Command AllocError). IfOk r (λ x. IsFo
 
 pub returns-in-Ok-ask-clause-asked : goal.returns-in-Ok-ask-clause-asked
 returns-in-Ok-ask-clause-asked g c alone =
-    line_asked c.steps_stay.ensures g.Q.Desk.start c.requires.numbered c.requires.ops alone c.requires.earlier (g.Q.Desk.seen c.args.desk.now) (g.Q.Desk.seen c.ask.new.self) (AskStep (asked_of c.in-Ok.command)) (λ op. Accepted op) (Ok c.in-Ok-ask.field-0) (inl (asked_of c.in-Ok.command, refl)) accepted_none c.in-Ok-ask.ensures.step
+    line_asked c.steps_stay.ensures g.Q.Desk.start c.requires.numbered c.requires.ops alone c.requires.earlier (g.Q.Desk.seen c.args.desk.now) (g.Q.Desk.seen c.ask.new.self)
+    (AskStep (asked_of c.in-Ok.command)) (λ op. Accepted op) (Ok c.in-Ok-ask.field-0) (inl (asked_of c.in-Ok.command, refl)) accepted_none c.in-Ok-ask.ensures.step
 
 pub returns-clause-asked : goal.returns-clause-asked
 returns-clause-asked g c alone =
-    line_asked c.steps_stay.ensures g.Q.Desk.start c.requires.numbered c.requires.ops alone c.requires.earlier (g.Q.Desk.seen c.args.desk.now) (g.Q.Desk.seen c.ask.new.self) (AskStep (asked_of c.in-Ok.command)) (λ op. Accepted op) (Err c.in-Err.refusal) (inl (asked_of c.in-Ok.command, refl)) accepted_none c.in-Err.ensures.step
+    line_asked c.steps_stay.ensures g.Q.Desk.start c.requires.numbered c.requires.ops alone c.requires.earlier (g.Q.Desk.seen c.args.desk.now) (g.Q.Desk.seen c.ask.new.self)
+    (AskStep (asked_of c.in-Ok.command)) (λ op. Accepted op) (Err c.in-Err.refusal) (inl (asked_of c.in-Ok.command, refl)) accepted_none c.in-Err.ensures.step
 
 pub returns-in_default-clause-asked : goal.returns-in_default-clause-asked
 returns-in_default-clause-asked g c alone =

@@ -26,7 +26,9 @@ returns-in-Ok-clause-done g c = go c.work_out.result.1 c.work_out.ensures.done c
     go : (r : Result Unit AllocError) → OnOk r (AreIn g.K.Told.start c.carry_lines-desk.result.0 → IsIdle g.K.Told.start c.work_out.result.0 ⊎ HasStopped c.work_out.result.0)
         → OnOk r ((elections c.work_out.result.0 ≡ elections c.carry_lines-desk.result.0 + c.in-Ok.elections) ⊎ (2 ^ 33 ≤ length c.work_out.result.0))
         → OnOk r (AreIn g.K.Told.start c.args.desk → AreDone g.K.Told.start c.args.moment c.args.lines.now c.args.desk c.work_out.result.0 ⊎ WasLeft g.K.Told.start c.args.moment 0 c.args.lines.now c.args.desk c.work_out.result.0)
-    go (Ok x) done elected = done_then g.K.Told.start c.args.moment c.in-Ok.elections c.args.lines.now c.args.desk c.carry_lines-desk.result.0 c.work_out.result.0 (ok_is (λ (owed : ℕ). AreIn g.K.Told.start c.args.desk → AreMade g.K.Told.start c.args.moment owed c.args.lines.now c.args.desk c.carry_lines-desk.result.0 ⊎ WasLeft g.K.Told.start c.args.moment owed c.args.lines.now c.args.desk c.carry_lines-desk.result.0) c.carry_lines-desk.result.1 c.in-Ok.elections c.in-Ok.is c.carry_lines-desk.ensures.rests) c.work_out.ensures.grew c.work_out.ensures.only elected done c.work_out.ensures.closed
+    go (Ok x) done elected = done_then g.K.Told.start c.args.moment c.in-Ok.elections c.args.lines.now c.args.desk c.carry_lines-desk.result.0 c.work_out.result.0
+        (ok_is (λ (owed : ℕ). AreIn g.K.Told.start c.args.desk → AreMade g.K.Told.start c.args.moment owed c.args.lines.now c.args.desk c.carry_lines-desk.result.0 ⊎ WasLeft g.K.Told.start c.args.moment owed c.args.lines.now
+        c.args.desk c.carry_lines-desk.result.0) c.carry_lines-desk.result.1 c.in-Ok.elections c.in-Ok.is c.carry_lines-desk.ensures.rests) c.work_out.ensures.grew c.work_out.ensures.only elected done c.work_out.ensures.closed
     go (Err e) done elected = tt
 
 pub returns-in-Ok-clause-whole : goal.returns-in-Ok-clause-whole
@@ -40,7 +42,8 @@ returns-in-Ok-clause-takes g c =
 
 pub returns-in-Ok-clause-elects : goal.returns-in-Ok-clause-elects
 returns-in-Ok-clause-elects g c =
-    let few : elections c.carry_lines-desk.result.0 + c.in-Ok.elections ≤ elections c.args.desk + failovers_of c.args.lines.now = ok_is (λ (owed : ℕ). elections c.carry_lines-desk.result.0 + owed ≤ elections c.args.desk + failovers_of c.args.lines.now) c.carry_lines-desk.result.1 c.in-Ok.elections c.in-Ok.is c.carry_lines-desk.ensures.owes in
+    let few : elections c.carry_lines-desk.result.0 + c.in-Ok.elections ≤ elections c.args.desk + failovers_of c.args.lines.now =
+    ok_is (λ (owed : ℕ). elections c.carry_lines-desk.result.0 + owed ≤ elections c.args.desk + failovers_of c.args.lines.now) c.carry_lines-desk.result.1 c.in-Ok.elections c.in-Ok.is c.carry_lines-desk.ensures.owes in
     let last : elections c.work_out.result.0 ≤ elections c.carry_lines-desk.result.0 + c.in-Ok.elections = c.work_out.ensures.elects in
     omega (arith, few, last)
 
@@ -52,7 +55,8 @@ returns-in-Err-clause-takes g c =
 pub returns-in-Ok-clause-apart : goal.returns-in-Ok-clause-apart
 returns-in-Ok-clause-apart g c =
     apart_then g.K.Told.start c.args.moment c.in-Ok.elections c.args.lines.now c.args.desk c.carry_lines-desk.result.0 c.work_out.result.0 c.carry_lines-desk.ensures.apart
-    (ok_is (λ (owed : ℕ). AreIn g.K.Told.start c.args.desk → AreMade g.K.Told.start c.args.moment owed c.args.lines.now c.args.desk c.carry_lines-desk.result.0 ⊎ WasLeft g.K.Told.start c.args.moment owed c.args.lines.now c.args.desk c.carry_lines-desk.result.0) c.carry_lines-desk.result.1 c.in-Ok.elections c.in-Ok.is c.carry_lines-desk.ensures.rests)
+    (ok_is (λ (owed : ℕ). AreIn g.K.Told.start c.args.desk → AreMade g.K.Told.start c.args.moment owed c.args.lines.now c.args.desk c.carry_lines-desk.result.0
+    ⊎ WasLeft g.K.Told.start c.args.moment owed c.args.lines.now c.args.desk c.carry_lines-desk.result.0) c.carry_lines-desk.result.1 c.in-Ok.elections c.in-Ok.is c.carry_lines-desk.ensures.rests)
     c.work_out.ensures.only
 
 pub returns-in-Err-clause-apart : goal.returns-in-Err-clause-apart

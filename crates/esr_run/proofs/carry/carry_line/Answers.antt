@@ -23,7 +23,8 @@ pub carry_step-answer-requires-clause-other : goal.carry_step-answer-requires-cl
 carry_step-answer-requires-clause-other g c κs within = sym c.is_wait.ensures ∙ c.if-is_wait.false
 
 pub returns-then-is_wait-clause-made : goal.returns-then-is_wait-clause-made
-returns-then-is_wait-clause-made g c = subst (λ (i : Item). LineMade g.K.Told.start (steps_of_item c.args.moment i) c.args.desk c.wait.result.0 c.wait.result.1) (sym (wait_is c.args.item.now (sym c.is_wait.ensures ∙ c.if-is_wait.true))) c.wait.ensures.made
+returns-then-is_wait-clause-made g c =
+    subst (λ (i : Item). LineMade g.K.Told.start (steps_of_item c.args.moment i) c.args.desk c.wait.result.0 c.wait.result.1) (sym (wait_is c.args.item.now (sym c.is_wait.ensures ∙ c.if-is_wait.true))) c.wait.ensures.made
 
 pub returns-then-is_wait-clause-checked : goal.returns-then-is_wait-clause-checked
 returns-then-is_wait-clause-checked g c check = absurd (no_check c.args.item.now (wait_is c.args.item.now (sym c.is_wait.ensures ∙ c.if-is_wait.true)) check)

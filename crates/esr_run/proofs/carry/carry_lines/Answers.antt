@@ -32,9 +32,11 @@ loop-left-preserved g c =
     ] in
     record {
       front = line_front s c.args.moment c.loop-left.owed c.owed_after-owed.result line left lines c.args.desk mid new r c.in-len1-up.len_at_least c.line-item.is c.owed_after-owed.ensures told inv.front
-          c.carry_line-after.ensures.made c.carry_line-after.ensures.elects c.carry_line-after.ensures.checked c.carry_line-after.ensures.begun c.carry_line-after.ensures.only inv.may.idle c.carry_line-after.ensures.rests c.carry_line-after.ensures.ended;
+          c.carry_line-after.ensures.made c.carry_line-after.ensures.elects c.carry_line-after.ensures.checked c.carry_line-after.ensures.begun
+          c.carry_line-after.ensures.only inv.may.idle c.carry_line-after.ensures.rests c.carry_line-after.ensures.ended;
       good = good_next left inv.good;
-      may = told_may s c.args.workers (asks_check lines) new r told (c.carry_line-after.ensures.verified (asks_check lines) (asks_here s c.args.moment c.loop-left.owed line left lines c.args.desk mid c.in-len1-up.len_at_least c.line-item.is inv.front) inv.may);
+      may = told_may s c.args.workers (asks_check lines) new r told
+          (c.carry_line-after.ensures.verified (asks_check lines) (asks_here s c.args.moment c.loop-left.owed line left lines c.args.desk mid c.in-len1-up.len_at_least c.line-item.is inv.front) inv.may);
       takes = waits_on c.args.workers line left (idle_takes c.args.desk) (idle_takes mid) (idle_takes new) (waits_of c.args.workers lines) c.in-len1-up.len_at_least c.line-item.is inv.takes c.carry_line-after.ensures.takes;
       fits = line_fits line.item c.loop-left.owed c.owed_after-owed.result left (length lines) c.in-len1-up.len_at_least c.owed_after-owed.ensures inv.fits;
       small = inv.small;
@@ -62,7 +64,8 @@ carry_line-after-requires-clause-legal g c κs within = c.loop-left.invariant.ma
 pub returns-in-Memory-clause-made : goal.returns-in-Memory-clause-made
 returns-in-Memory-clause-made g c =
     made_by g.K.Told.start c.args.moment c.loop-left.owed c.loop-left.left.now c.args.lines.now (steps_of_item c.args.moment c.line-item.result.item) c.args.desk c.loop-left.desk c.carry_line-after.result.0 c.carry_line-after.result.1
-    (asks_first c.args.moment c.line-item.result c.loop-left.left.now c.in-len1-up.len_at_least c.line-item.is) c.loop-left.invariant.front c.carry_line-after.ensures.made (inl (is_err c.carry_line-after.result.1 c.in-Err.refusal steps.Memory c.in-Err.is c.in-Memory.is))
+    (asks_first c.args.moment c.line-item.result c.loop-left.left.now c.in-len1-up.len_at_least c.line-item.is) c.loop-left.invariant.front c.carry_line-after.ensures.made
+    (inl (is_err c.carry_line-after.result.1 c.in-Err.refusal steps.Memory c.in-Err.is c.in-Memory.is))
 
 pub returns-in-Memory-clause-apart : goal.returns-in-Memory-clause-apart
 returns-in-Memory-clause-apart g c none =
@@ -91,7 +94,8 @@ returns-in-Memory-clause-elects g c =
 pub returns-in-TurnsSpent-clause-made : goal.returns-in-TurnsSpent-clause-made
 returns-in-TurnsSpent-clause-made g c =
     made_by g.K.Told.start c.args.moment c.loop-left.owed c.loop-left.left.now c.args.lines.now (steps_of_item c.args.moment c.line-item.result.item) c.args.desk c.loop-left.desk c.carry_line-after.result.0 c.carry_line-after.result.1
-    (asks_first c.args.moment c.line-item.result c.loop-left.left.now c.in-len1-up.len_at_least c.line-item.is) c.loop-left.invariant.front c.carry_line-after.ensures.made (inr (is_err c.carry_line-after.result.1 c.in-Err.refusal steps.TurnsSpent c.in-Err.is c.in-TurnsSpent.is))
+    (asks_first c.args.moment c.line-item.result c.loop-left.left.now c.in-len1-up.len_at_least c.line-item.is) c.loop-left.invariant.front c.carry_line-after.ensures.made
+    (inr (is_err c.carry_line-after.result.1 c.in-Err.refusal steps.TurnsSpent c.in-Err.is c.in-TurnsSpent.is))
 
 pub returns-in-TurnsSpent-clause-apart : goal.returns-in-TurnsSpent-clause-apart
 returns-in-TurnsSpent-clause-apart g c none =
@@ -118,11 +122,13 @@ returns-in-TurnsSpent-clause-elects g c =
     (line_few c.loop-left.owed c.line-item.result.item c.loop-left.desk c.carry_line-after.result.0 c.carry_line-after.result.1 c.carry_line-after.ensures.elects)
 
 pub returns-in-TurnsSpent-clause-rests : goal.returns-in-TurnsSpent-clause-rests
-returns-in-TurnsSpent-clause-rests g c none = inr (inr (turns_by c.carry_line-after.result.0 c.carry_line-after.result.1 (is_err c.carry_line-after.result.1 c.in-Err.refusal steps.TurnsSpent c.in-Err.is c.in-TurnsSpent.is) c.carry_line-after.ensures.spent))
+returns-in-TurnsSpent-clause-rests g c none =
+    inr (inr (turns_by c.carry_line-after.result.0 c.carry_line-after.result.1 (is_err c.carry_line-after.result.1 c.in-Err.refusal steps.TurnsSpent c.in-Err.is c.in-TurnsSpent.is) c.carry_line-after.ensures.spent))
 
 pub returns-in-TurnsSpent-clause-owes : goal.returns-in-TurnsSpent-clause-owes
 returns-in-TurnsSpent-clause-owes g c =
-    let few : elections c.carry_line-after.result.0 ≤ elections c.args.desk + failovers_of c.args.lines.now = front_few g.K.Told.start c.args.moment c.loop-left.owed c.loop-left.left.now c.args.lines.now c.args.desk c.loop-left.desk c.carry_line-after.result.0 c.loop-left.invariant.front
+    let few : elections c.carry_line-after.result.0 ≤ elections c.args.desk + failovers_of c.args.lines.now =
+    front_few g.K.Told.start c.args.moment c.loop-left.owed c.loop-left.left.now c.args.lines.now c.args.desk c.loop-left.desk c.carry_line-after.result.0 c.loop-left.invariant.front
     (line_few c.loop-left.owed c.line-item.result.item c.loop-left.desk c.carry_line-after.result.0 c.carry_line-after.result.1 c.carry_line-after.ensures.elects) in
     omega (arith, few)
 
@@ -150,5 +156,6 @@ returns-clause-owes g c = front_owes g.K.Told.start c.args.moment c.loop-left.ow
 
 pub returns-clause-elects : goal.returns-clause-elects
 returns-clause-elects g c =
-    let all : elections c.loop-left.desk + c.loop-left.owed ≤ elections c.args.desk + failovers_of c.args.lines.now = front_owes g.K.Told.start c.args.moment c.loop-left.owed c.loop-left.left.now c.args.lines.now c.args.desk c.loop-left.desk c.loop-left.invariant.front in
+    let all : elections c.loop-left.desk + c.loop-left.owed ≤ elections c.args.desk + failovers_of c.args.lines.now =
+    front_owes g.K.Told.start c.args.moment c.loop-left.owed c.loop-left.left.now c.args.lines.now c.args.desk c.loop-left.desk c.loop-left.invariant.front in
     omega (arith, all)

@@ -10,12 +10,14 @@ use Rattle.esr_run.proofs.carry.list.Goals as goal
 
 pub returns-in-Err-clause-asked : goal.returns-in-Err-clause-asked
 returns-in-Err-clause-asked g c alone =
-    line_asked c.steps_stay.ensures g.Q.Desk.start c.requires.numbered c.requires.ops alone c.requires.earlier (g.Q.Desk.seen c.args.desk.now) (g.Q.Desk.seen c.look.new.self) LookStep (λ (l : Answer). Looked (map root_snap_of l.listing) (count_of l.safe)) (Err c.in-Err.refusal)
+    line_asked c.steps_stay.ensures g.Q.Desk.start c.requires.numbered c.requires.ops alone c.requires.earlier (g.Q.Desk.seen c.args.desk.now)
+    (g.Q.Desk.seen c.look.new.self) LookStep (λ (l : Answer). Looked (map root_snap_of l.listing) (count_of l.safe)) (Err c.in-Err.refusal)
     (inr refl) (λ l. looked_none (map root_snap_of l.listing) (count_of l.safe)) c.in-Err.ensures.step
 
 pub returns-clause-asked : goal.returns-clause-asked
 returns-clause-asked g c alone =
-    line_asked c.steps_stay.ensures g.Q.Desk.start c.requires.numbered c.requires.ops alone c.requires.earlier (g.Q.Desk.seen c.args.desk.now) (g.Q.Desk.seen c.look.new.self) LookStep (λ (l : Answer). Looked (map root_snap_of l.listing) (count_of l.safe)) (Ok c.in_default.field-0)
+    line_asked c.steps_stay.ensures g.Q.Desk.start c.requires.numbered c.requires.ops alone c.requires.earlier (g.Q.Desk.seen c.args.desk.now)
+    (g.Q.Desk.seen c.look.new.self) LookStep (λ (l : Answer). Looked (map root_snap_of l.listing) (count_of l.safe)) (Ok c.in_default.field-0)
     (inr refl) (λ l. looked_none (map root_snap_of l.listing) (count_of l.safe)) c.in_default.ensures.step
 
 pub returns-in-Err-clause-made : goal.returns-in-Err-clause-made

@@ -8,12 +8,14 @@ use Rattle.esr_run.proofs.carry.restore.Goals as goal
 
 pub returns-in-Err-clause-asked : goal.returns-in-Err-clause-asked
 returns-in-Err-clause-asked g c alone =
-    line_asked c.steps_stay.ensures g.Q.Desk.start c.requires.numbered c.requires.ops alone c.requires.earlier (g.Q.Desk.seen c.args.desk.now) (g.Q.Desk.seen c.restore.new.self) (AskStep (Restore c.args.name.now c.args.place.now)) (λ (a : Answer). AcceptedRestore a.op a.uuid.number (map ref_of_code a.indices)) (Err c.in-Err.refusal)
+    line_asked c.steps_stay.ensures g.Q.Desk.start c.requires.numbered c.requires.ops alone c.requires.earlier (g.Q.Desk.seen c.args.desk.now) (g.Q.Desk.seen c.restore.new.self)
+    (AskStep (Restore c.args.name.now c.args.place.now)) (λ (a : Answer). AcceptedRestore a.op a.uuid.number (map ref_of_code a.indices)) (Err c.in-Err.refusal)
     (inl (Restore c.args.name.now c.args.place.now, refl)) (λ a. restore_none a.op a.uuid.number (map ref_of_code a.indices)) c.in-Err.ensures.step
 
 pub returns-clause-asked : goal.returns-clause-asked
 returns-clause-asked g c alone =
-    line_asked c.steps_stay.ensures g.Q.Desk.start c.requires.numbered c.requires.ops alone c.requires.earlier (g.Q.Desk.seen c.args.desk.now) (g.Q.Desk.seen c.restore.new.self) (AskStep (Restore c.args.name.now c.args.place.now)) (λ (a : Answer). AcceptedRestore a.op a.uuid.number (map ref_of_code a.indices)) (Ok c.in_default.field-0)
+    line_asked c.steps_stay.ensures g.Q.Desk.start c.requires.numbered c.requires.ops alone c.requires.earlier (g.Q.Desk.seen c.args.desk.now) (g.Q.Desk.seen c.restore.new.self)
+    (AskStep (Restore c.args.name.now c.args.place.now)) (λ (a : Answer). AcceptedRestore a.op a.uuid.number (map ref_of_code a.indices)) (Ok c.in_default.field-0)
     (inl (Restore c.args.name.now c.args.place.now, refl)) (λ a. restore_none a.op a.uuid.number (map ref_of_code a.indices)) c.in_default.ensures.step
 
 pub returns-in-Err-clause-made : goal.returns-in-Err-clause-made

@@ -35,13 +35,17 @@ pub returns-in-Ok-clause-elected : goal.returns-in-Ok-clause-elected
 returns-in-Ok-clause-elected g c = end_elected c.args.crew.elections c.args.desk c.wait-desk.result.0 c.wait-desk.result.1 (ok_ends c.wait-desk.result.1 tt c.in-Ok.is) c.wait-desk.ensures.elects c.wait-desk.ensures.spent
 
 pub returns-in-TurnsSpent-clause-done : goal.returns-in-TurnsSpent-clause-done
-returns-in-TurnsSpent-clause-done g c none = end_done g.K.Told.start c.args.desk c.wait-desk.result.0 c.wait-desk.result.1 (err_ends c.wait-desk.result.1 c.in-Err.refusal c.in-Err.is (subst (λ (e : StepRefusal). IsEnd (Err e)) (sym c.in-TurnsSpent.is) tt)) c.wait-desk.ensures.rests c.wait-desk.ensures.ended none
+returns-in-TurnsSpent-clause-done g c none = end_done g.K.Told.start c.args.desk c.wait-desk.result.0 c.wait-desk.result.1
+    (err_ends c.wait-desk.result.1 c.in-Err.refusal c.in-Err.is (subst (λ (e : StepRefusal). IsEnd (Err e)) (sym c.in-TurnsSpent.is) tt)) c.wait-desk.ensures.rests c.wait-desk.ensures.ended none
 
 pub returns-in-TurnsSpent-clause-elected : goal.returns-in-TurnsSpent-clause-elected
-returns-in-TurnsSpent-clause-elected g c = end_elected c.args.crew.elections c.args.desk c.wait-desk.result.0 c.wait-desk.result.1 (err_ends c.wait-desk.result.1 c.in-Err.refusal c.in-Err.is (subst (λ (e : StepRefusal). IsEnd (Err e)) (sym c.in-TurnsSpent.is) tt)) c.wait-desk.ensures.elects c.wait-desk.ensures.spent
+returns-in-TurnsSpent-clause-elected g c = end_elected c.args.crew.elections c.args.desk c.wait-desk.result.0 c.wait-desk.result.1
+    (err_ends c.wait-desk.result.1 c.in-Err.refusal c.in-Err.is (subst (λ (e : StepRefusal). IsEnd (Err e)) (sym c.in-TurnsSpent.is) tt)) c.wait-desk.ensures.elects c.wait-desk.ensures.spent
 
 pub returns-in-Refused-clause-done : goal.returns-in-Refused-clause-done
-returns-in-Refused-clause-done g c none = end_done g.K.Told.start c.args.desk c.wait-desk.result.0 c.wait-desk.result.1 (err_ends c.wait-desk.result.1 c.in-Err.refusal c.in-Err.is (subst (λ (e : StepRefusal). IsEnd (Err e)) (sym c.in-Refused.is) tt)) c.wait-desk.ensures.rests c.wait-desk.ensures.ended none
+returns-in-Refused-clause-done g c none = end_done g.K.Told.start c.args.desk c.wait-desk.result.0 c.wait-desk.result.1
+    (err_ends c.wait-desk.result.1 c.in-Err.refusal c.in-Err.is (subst (λ (e : StepRefusal). IsEnd (Err e)) (sym c.in-Refused.is) tt)) c.wait-desk.ensures.rests c.wait-desk.ensures.ended none
 
 pub returns-in-Refused-clause-elected : goal.returns-in-Refused-clause-elected
-returns-in-Refused-clause-elected g c = end_elected c.args.crew.elections c.args.desk c.wait-desk.result.0 c.wait-desk.result.1 (err_ends c.wait-desk.result.1 c.in-Err.refusal c.in-Err.is (subst (λ (e : StepRefusal). IsEnd (Err e)) (sym c.in-Refused.is) tt)) c.wait-desk.ensures.elects c.wait-desk.ensures.spent
+returns-in-Refused-clause-elected g c = end_elected c.args.crew.elections c.args.desk c.wait-desk.result.0 c.wait-desk.result.1
+    (err_ends c.wait-desk.result.1 c.in-Err.refusal c.in-Err.is (subst (λ (e : StepRefusal). IsEnd (Err e)) (sym c.in-Refused.is) tt)) c.wait-desk.ensures.elects c.wait-desk.ensures.spent

@@ -9,7 +9,8 @@ returns-then-is_empty-clause-kept g c =
     let inv = c.loop-alloc.invariant in
     let empty : vec_len c.in_ok-piece.piece ≡ 0 = eqb-true (vec_len c.in_ok-piece.piece) 0 (sym c.if-is_empty.ensures) in
     let none : c.in_ok-piece.piece.items ≡ [] = nil_of c.in_ok-piece.piece.items (omega (arith, c.in_ok-piece.piece.ok, empty)) in
-    read_end (g.I.Lines.left c.args.script.now) (g.I.Lines.left c.loop-alloc.script) (g.I.Lines.left c.next_piece.new.script) c.loop-alloc.kept c.in_ok-piece.piece.items inv.took c.in_ok-piece.ensures.took none (c.in_ok-piece.ensures.end none) inv.few
+    read_end (g.I.Lines.left c.args.script.now) (g.I.Lines.left c.loop-alloc.script)
+    (g.I.Lines.left c.next_piece.new.script) c.loop-alloc.kept c.in_ok-piece.piece.items inv.took c.in_ok-piece.ensures.took none (c.in_ok-piece.ensures.end none) inv.few
 
 pub returns-in_err-extend_from_slice-clause-part : goal.returns-in_err-extend_from_slice-clause-part
 returns-in_err-extend_from_slice-clause-part g c =

@@ -1,5 +1,6 @@
 use Rattle.std.proofs.Common.{◌++◌, take, arith}
-use Rattle.esr_run.proofs.Reading.{wrote_more, whole_more}
+use Rattle.std.proofs.KnownBytes.{Appends-trans}
+use Rattle.esr_run.proofs.Reading.{whole_more}
 use Rattle.esr_run.proofs.verdict.print.Goals as goal
 
 pub loop-rest-preserved : goal.loop-rest-preserved
@@ -8,6 +9,6 @@ loop-rest-preserved g c =
     record {
       front = inv.front ++ take c.in-Ok.taken c.loop-rest.rest.now;
       whole = whole_more c.args.text.now inv.front c.loop-rest.rest.now c.in-Ok.taken inv.whole;
-      wrote = wrote_more (g.O.Out.contents c.args.out.now) (g.O.Out.contents c.loop-rest.out) (g.O.Out.contents c.write.new.self) inv.front (take c.in-Ok.taken c.loop-rest.rest.now) inv.wrote c.in-Ok.ensures.taken;
+      wrote = Appends-trans (g.O.Out.contents c.args.out.now) (g.O.Out.contents c.loop-rest.out) (g.O.Out.contents c.write.new.self) inv.front (take c.in-Ok.taken c.loop-rest.rest.now) inv.wrote c.in-Ok.ensures.taken;
       later = omega (arith, inv.later, c.write.ensures.cause.later);
     }

@@ -13,7 +13,8 @@ pub returns-clause-done : goal.returns-clause-done
 returns-clause-done g c =
     subst (λ (lines : List ScriptLine). OnOk c.carry-desk.result.1 (AreDone g.K.Told.start c.args.moment lines [] c.into_parts-repo.result.0 ⊎ HasFallen g.K.Told.start c.args.moment lines [] c.into_parts-repo.result.0)) c.as_slice-lines.ensures
     (done_fallen c.refusals.ensures g.K.Told.start c.args.moment c.as_slice-lines.result.now c.new-desk.result c.carry-desk.result.0 c.into_parts-repo.result.0 c.carry-desk.result.1
-    (done_on g.K.Told.start c.args.moment c.as_slice-lines.result.now c.new-desk.result c.carry-desk.result.0 c.into_parts-repo.result.0 c.carry-desk.result.1 c.carry-desk.ensures.done c.into_parts-repo.ensures.repo c.new-desk.ensures c.requires.numbered c.requires.readers)
+    (done_on g.K.Told.start c.args.moment c.as_slice-lines.result.now c.new-desk.result c.carry-desk.result.0 c.into_parts-repo.result.0
+    c.carry-desk.result.1 c.carry-desk.ensures.done c.into_parts-repo.ensures.repo c.new-desk.ensures c.requires.numbered c.requires.readers)
     c.carry-desk.ensures.made c.into_parts-repo.ensures.repo c.new-desk.ensures c.requires.alive)
 
 pub carry-desk-requires-clause-waits : goal.carry-desk-requires-clause-waits
@@ -29,7 +30,8 @@ returns-clause-whole g c =
 
 pub returns-clause-few : goal.returns-clause-few
 returns-clause-few g c =
-    are_few c.args.asked.now.workers c.new-desk.result c.carry-desk.result.0 c.into_parts-repo.result.0 c.as_slice-lines.result.now c.args.asked.now.script c.carry-desk.ensures.takes c.carry-desk.ensures.elects c.into_parts-repo.ensures.repo c.new-desk.ensures
+    are_few c.args.asked.now.workers c.new-desk.result c.carry-desk.result.0 c.into_parts-repo.result.0 c.as_slice-lines.result.now
+    c.args.asked.now.script c.carry-desk.ensures.takes c.carry-desk.ensures.elects c.into_parts-repo.ensures.repo c.new-desk.ensures
     c.as_slice-lines.ensures
 
 pub returns-clause-apart : goal.returns-clause-apart

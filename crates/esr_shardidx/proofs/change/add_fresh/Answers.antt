@@ -21,7 +21,8 @@ loop-entry-preserved c =
       | then-not-is_there+in_ok-try_clone+in_ok-push w ↦
           let absent : has_file c.args.entries.now e.name ≡ false = sym c.is_there.ensures ∙ w.if-not-is_there.true in
           let one : filter q (e ∷ []) ≡ e ∷ [] = rw absent refl in
-          let pushed : c.if-not-is_there.files.items ≡ c.loop-entry.files.items ++ e ∷ [] = ap (λ (v : _). v.items) w.files-is ∙ w.in_ok-push.ensures.items ∙ ap (λ (x : FileEntry). c.loop-entry.files.items ++ x ∷ []) w.in_ok-try_clone.ensures in
+          let pushed : c.if-not-is_there.files.items ≡ c.loop-entry.files.items ++ e ∷ [] =
+          ap (λ (v : _). v.items) w.files-is ∙ w.in_ok-push.ensures.items ∙ ap (λ (x : FileEntry). c.loop-entry.files.items ++ x ∷ []) w.in_ok-try_clone.ensures in
           pushed ∙ ap (λ (xs : List FileEntry). xs ++ e ∷ []) before ∙ append_assoc old (filter q (take i more)) (e ∷ [])
           ∙ ap (λ (xs : List FileEntry). old ++ (filter q (take i more) ++ xs)) (sym one) ∙ ap (λ (xs : List FileEntry). old ++ xs) (sym split)
       | else-not-is_there w ↦

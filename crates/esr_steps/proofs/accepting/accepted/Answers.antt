@@ -1,6 +1,6 @@
-use Rattle.std.proofs.Common.{◌+◌, ◌<◌, ◌^◌, IfSome, ap, ◌∙◌, arith}
+use Rattle.std.proofs.Common.{◌+◌, ◌<◌, ◌^◌, None, IfSome, ap, ◌∙◌, arith}
 use Rattle.esr_model.specs.Values.{ClusterRecord}
-use Rattle.esr_core.specs.Entry.{AskStep}
+use Rattle.esr_core.specs.Entry.{AskStep, Accepted}
 use Rattle.esr_record.specs.Record.{Record}
 use Rattle.esr_formats.specs.Clusters.{cluster_of}
 use Rattle.esr_ops.specs.declared.refusal.Refusal.{Refusal}
@@ -11,6 +11,7 @@ use Rattle.esr_steps.specs.Asked.{entry_of}
 use Rattle.esr_repo.specs.May.{MayRefuse}
 use Rattle.esr_steps.proofs.Stepping.{err_passed}
 use Rattle.esr_steps.proofs.Accepts.{refuses, may_ask}
+use Rattle.esr_steps.proofs.WithOps.{swap_is}
 use Rattle.esr_steps.proofs.accepting.accepted.Goals as goal
 
 pub overflow_add-next : goal.overflow_add-next
@@ -20,10 +21,13 @@ overflow_add-next g c =
 
 pub returns-in_err-progress-clause-err : goal.returns-in_err-progress-clause-err
 returns-in_err-progress-clause-err g c =
-    err_passed c.from_residual.result (λ (e : Refusal). IfSome (entry_of e) (λ r. MayRefuse g.K.Told.start c.args.repo.now 0 (AskStep (asked_of c.args.command.now)) (refusal_of r))) c.in_err-progress.field-0.0 c.from_residual.ensures.1
+    err_passed c.from_residual-in_err-progress.result
+    (λ (e : Refusal). IfSome (entry_of e) (λ r. MayRefuse g.K.Told.start c.args.repo.now 0 (AskStep (asked_of c.args.command.now)) (refusal_of r))) c.in_err-progress.field-0.0 c.from_residual-in_err-progress.ensures.1
     (refuses g.K.Told.start c.args.repo.now (asked_of c.args.command.now) c.in_err-progress.field-0.0 c.requires.may c.in_err-progress.ensures.listed)
 
 pub returns-clause-ok : goal.returns-clause-ok
 returns-clause-ok g c =
-    may_ask g.K.Told.start c.args.repo.now (asked_of c.args.command.now) _ c.in_ok-progress.progress c.in_ok-progress.accepted _ c.rules.ensures.infos c.requires.may c.in_ok-progress.ensures.listed
-    (ap (λ (r : Record). (cluster_of r).ledger) (c.cluster.view_is ∙ c.in_ok-cluster.ensures) ∙ ap (λ (x : ClusterRecord). x.ledger) c.record.ensures.record) c.in_ok-cluster-inside.ensures (omega (arith, c.from.ensures, c.next_id-first.ensures.number))
+    swap_is g.K.Told.start c.args.repo.now 0 (AskStep (asked_of c.args.command.now)) (Accepted c.in_ok-progress.accepted.op) None None None c.in_ok-progress.progress _ c.in_ok-renewed.renewed c.in_ok-renewed.ensures.is
+    (may_ask g.K.Told.start c.args.repo.now (asked_of c.args.command.now) c.in_ok-renewed.renewed.cluster c.in_ok-progress.progress c.in_ok-progress.accepted _ c.rules.ensures.infos c.requires.may c.in_ok-progress.ensures.listed
+    (c.in_ok-renewed.ensures.ledger ∙ ap (λ (r : Record). (cluster_of r).ledger) c.in_ok-cluster.ensures ∙ ap (λ (x : ClusterRecord). x.ledger) c.record.ensures.record) c.in_ok-renewed.ensures.ops
+    (omega (arith, c.from.ensures, c.next_id-first.ensures.number)))

@@ -10,10 +10,12 @@ note-requires-clause-may g c = may_note_checked g.K.Told.start c.args.repo.now c
 
 pub returns-clause-own : goal.returns-clause-own
 returns-clause-own g c =
-    on_done g.K.Told.start c.check.new.self c.note.new.self 0 (ReadStep (CheckedAll c.args.snapshots c.args.blobs)) HasEnded c.note.result c.note.ensures.step (checked_caller c.entries_tell_the_caller.ensures g.K.Told.start c.check.new.self c.note.new.self c.args.snapshots c.args.blobs)
+    on_done g.K.Told.start c.check.new.self c.note.new.self 0 (ReadStep (CheckedAll c.args.snapshots c.args.blobs)) HasEnded c.note.result c.note.ensures.step
+    (checked_caller c.entries_tell_the_caller.ensures g.K.Told.start c.check.new.self c.note.new.self c.args.snapshots c.args.blobs)
 
 pub returns-clause-kept : goal.returns-clause-kept
-returns-clause-kept g c = kept_caller c.entries_tell_the_caller.ensures g.K.Told.start c.args.repo.now c.check.new.self c.note.new.self 0 (CheckedAll c.args.snapshots c.args.blobs) (λ _. HasEnded) c.note.result (λ is. cc) c.in_ok-check.ensures.step.0 c.note.ensures.step
+returns-clause-kept g c =
+    kept_caller c.entries_tell_the_caller.ensures g.K.Told.start c.args.repo.now c.check.new.self c.note.new.self 0 (CheckedAll c.args.snapshots c.args.blobs) (λ _. HasEnded) c.note.result (λ is. cc) c.in_ok-check.ensures.step.0 c.note.ensures.step
 
 pub check-requires-clause-fresh : goal.check-requires-clause-fresh
 check-requires-clause-fresh g c = free_fresh g.K.Told.start c.args.repo.now 0 (ReadStep (CheckedAll c.args.snapshots c.args.blobs)) tt

@@ -14,13 +14,15 @@ returns-in_err-op g c =
 pub swap-requires-clause-may : goal.swap-requires-clause-may
 swap-requires-clause-may g c =
     subst
-    (λ (step : Step). MaySwap g.K.Told.start c.args.repo.now 0 step (Accepted c.in_ok-op.op) c.in_ok-op.renewed.cluster c.in_ok-op.renewed.root c.in_ok-op.renewed.left c.in_ok-op.renewed.info c.in_ok-op.renewed.progress c.in_ok-op.renewed.next.number)
+    (λ (step : Step).
+    MaySwap g.K.Told.start c.args.repo.now 0 step (Accepted c.in_ok-op.op) c.in_ok-op.renewed.cluster c.in_ok-op.renewed.root c.in_ok-op.renewed.left c.in_ok-op.renewed.info c.in_ok-op.renewed.progress c.in_ok-op.renewed.next.number)
     (sym c.in_ok-op.ensures.1) c.in_ok-op.ensures.2
 
 pub returns-in_err-swap : goal.returns-in_err-swap
 returns-in_err-swap g c = (
   c.in_ok-op.ensures.0,
-  passed_on g.K.Told.start c.args.repo.now c.swap.new.self 0 (step_of c.in_ok-op.step) (AskStep (Clone c.args.ask.now.source.now c.args.ask.now.name.now c.args.ask.now.indices.now c.args.ask.now.moment c.in_ok-op.ensures.0)) (λ op. Accepted op) c.from_residual-in_err-swap.result c.in_err-swap.field-0.0
+  passed_on g.K.Told.start c.args.repo.now c.swap.new.self 0 (step_of c.in_ok-op.step)
+      (AskStep (Clone c.args.ask.now.source.now c.args.ask.now.name.now c.args.ask.now.indices.now c.args.ask.now.moment c.in_ok-op.ensures.0)) (λ op. Accepted op) c.from_residual-in_err-swap.result c.in_err-swap.field-0.0
       c.in_ok-op.ensures.1 c.from_residual-in_err-swap.ensures.1 c.in_err-swap.ensures.step,
 )
 
@@ -29,5 +31,6 @@ returns g c = (c.in_ok-op.ensures.0, subst (λ (step : Step). Added g.K.Told.sta
 
 pub swap-requires-clause-goes : goal.swap-requires-clause-goes
 swap-requires-clause-goes g c =
-    goes_as g.K.Told.start c.args.repo.now 0 (AskStep (Clone c.args.ask.now.source.now c.args.ask.now.name.now c.args.ask.now.indices.now c.args.ask.now.moment c.in_ok-op.ensures.0)) (step_of c.in_ok-op.step) (AskStep (Clone c.args.ask.now.source.now c.args.ask.now.name.now c.args.ask.now.indices.now c.args.ask.now.moment c.in_ok-op.ensures.0)) refl c.in_ok-op.ensures.1
+    goes_as g.K.Told.start c.args.repo.now 0 (AskStep (Clone c.args.ask.now.source.now c.args.ask.now.name.now c.args.ask.now.indices.now c.args.ask.now.moment c.in_ok-op.ensures.0))
+    (step_of c.in_ok-op.step) (AskStep (Clone c.args.ask.now.source.now c.args.ask.now.name.now c.args.ask.now.indices.now c.args.ask.now.moment c.in_ok-op.ensures.0)) refl c.in_ok-op.ensures.1
     (goes_ask g.K.Told.start c.args.repo.now _ (Clone c.args.ask.now.source.now c.args.ask.now.name.now c.args.ask.now.indices.now c.args.ask.now.moment c.in_ok-op.ensures.0) c.requires.goes)

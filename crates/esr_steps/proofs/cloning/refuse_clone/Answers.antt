@@ -18,4 +18,5 @@ pub returns-in-Ok : goal.returns-in-Ok
 returns-in-Ok g c = subst (λ (step : Step). AddedOr g.K.Told.start c.args.repo.now c.refuse_asked.new.repo 0 step c.refuse_asked.result) c.in-Ok.ensures c.refuse_asked.ensures
 
 pub refuse_asked-requires-clause-goes : goal.refuse_asked-requires-clause-goes
-refuse_asked-requires-clause-goes g c = goes_as g.K.Told.start c.args.repo.now 0 (AskStep (Clone c.args.ask.now.source.now c.args.ask.now.name.now c.args.ask.now.indices.now c.args.ask.now.moment None)) (step_of c.in-Ok.step) (AskStep (Clone c.args.ask.now.source.now c.args.ask.now.name.now c.args.ask.now.indices.now c.args.ask.now.moment None)) refl c.in-Ok.ensures c.requires.goes
+refuse_asked-requires-clause-goes g c = goes_as g.K.Told.start c.args.repo.now 0 (AskStep (Clone c.args.ask.now.source.now c.args.ask.now.name.now c.args.ask.now.indices.now c.args.ask.now.moment None))
+    (step_of c.in-Ok.step) (AskStep (Clone c.args.ask.now.source.now c.args.ask.now.name.now c.args.ask.now.indices.now c.args.ask.now.moment None)) refl c.in-Ok.ensures c.requires.goes

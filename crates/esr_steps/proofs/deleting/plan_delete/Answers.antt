@@ -40,7 +40,8 @@ returns-clause-own g c =
 
 pub returns-clause-root : goal.returns-clause-root
 returns-clause-root g c =
-    planned_so c.draw_planned.result c.in_ok-plan.plan (λ (p : Planned). root_of p.root ≡ deleted_root (root_of c.args.root.now) (map number_of c.args.uuids.now) (map pruned_of c.args.shards.now) p.first.number) c.draw_planned.ensures.same c.in_ok-plan.ensures.root
+    planned_so c.draw_planned.result c.in_ok-plan.plan
+    (λ (p : Planned). root_of p.root ≡ deleted_root (root_of c.args.root.now) (map number_of c.args.uuids.now) (map pruned_of c.args.shards.now) p.first.number) c.draw_planned.ensures.same c.in_ok-plan.ensures.root
 
 pub returns-clause-range : goal.returns-clause-range
 returns-clause-range g c = planned_so c.draw_planned.result c.in_ok-plan.plan (λ (p : Planned). p.first.number + length c.args.shards.now < 2 ^ 128) c.draw_planned.ensures.same c.in_ok-plan.ensures.range

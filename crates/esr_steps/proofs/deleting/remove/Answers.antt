@@ -18,7 +18,8 @@ call_remove-requires-clause-may g c =
     (subst (λ (names : List CodeName). MayRemove s c.check.new.self c.args.ticket (PruneStep (RemoveDoomed (map name_of c.args.names.now))) (map name_of names)) (sym c.as_slice.ensures) may)
 
 pub returns-clause-step : goal.returns-clause-step
-returns-clause-step g c = removes_from g.K.Told.start c.args.repo.now c.check.new.self c.call_remove.new.self c.args.ticket (step_of c.in_ok-step.step) c.args.names.now c.call_remove.result c.in_ok-check.ensures.step.0 c.in_ok-step.ensures c.call_remove.ensures.step
+returns-clause-step g c =
+    removes_from g.K.Told.start c.args.repo.now c.check.new.self c.call_remove.new.self c.args.ticket (step_of c.in_ok-step.step) c.args.names.now c.call_remove.result c.in_ok-check.ensures.step.0 c.in_ok-step.ensures c.call_remove.ensures.step
 
 pub returns-clause-own : goal.returns-clause-own
 returns-clause-own g c = remove_kept g.K.Told.start c.args.repo.now c.call_remove.new.self c.args.ticket (map name_of c.args.names.now) c.call_remove.result (returns-clause-step g c)

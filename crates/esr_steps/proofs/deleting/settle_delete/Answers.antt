@@ -9,7 +9,8 @@ use Rattle.esr_steps.proofs.deleting.settle_delete.Goals as goal
 
 pub refuse-requires-clause-may : goal.refuse-requires-clause-may
 refuse-requires-clause-may g c =
-    may_refuse_delete g.K.Told.start c.args.repo.now c.check.new.self c.args.ticket (root_of c.args.root.now) (seat_of_code c.seat-own.result) c.term-now.result c.in_ok-check.ensures.step.0 c.rules.ensures.tracked c.rules.ensures.of_ops c.requires.may
+    may_refuse_delete g.K.Told.start c.args.repo.now c.check.new.self c.args.ticket (root_of c.args.root.now)
+    (seat_of_code c.seat-own.result) c.term-now.result c.in_ok-check.ensures.step.0 c.rules.ensures.tracked c.rules.ensures.of_ops c.requires.may
     c.seat-own.ensures c.term-now.ensures.term (search rules)
 
 pub returns-clause-own : goal.returns-clause-own

@@ -13,7 +13,8 @@ check-requires-clause-fresh g c = free_fresh g.K.Told.start c.args.repo.now 0 El
 
 pub refuse-requires-clause-may : goal.refuse-requires-clause-may
 refuse-requires-clause-may g c =
-    may_refuse_elect g.K.Told.start c.check.new.self c.in_ok-cluster.cluster c.in-Err.refusal (refusal_of c.entry_refusal.result) (ap cluster_of c.in_ok-cluster.ensures ∙ c.record.ensures.record) c.in-Err.ensures.answer c.entry_refusal.ensures.terms
+    may_refuse_elect g.K.Told.start c.check.new.self c.in_ok-cluster.cluster c.in-Err.refusal (refusal_of c.entry_refusal.result)
+    (ap cluster_of c.in_ok-cluster.ensures ∙ c.record.ensures.record) c.in-Err.ensures.answer c.entry_refusal.ensures.terms
 
 pub elected-renewed-requires-clause-next : goal.elected-renewed-requires-clause-next
 elected-renewed-requires-clause-next g c =

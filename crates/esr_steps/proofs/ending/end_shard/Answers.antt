@@ -10,7 +10,8 @@ shard_done-requires g c = seat_is_kept g.K.Told.start c.args.repo.now c.check.ne
 
 pub note-requires-clause-may : goal.note-requires-clause-may
 note-requires-clause-may g c =
-    may_note_done g.K.Told.start c.args.repo.now c.check.new.self c.args.ticket (result_of c.args.outcome.now) c.plan.result.now c.in_ok-progress.progress c.next_id-next.result.number c.in_ok-check.ensures.step.0 c.rules.ensures.tracked c.requires.may
+    may_note_done g.K.Told.start c.args.repo.now c.check.new.self c.args.ticket
+    (result_of c.args.outcome.now) c.plan.result.now c.in_ok-progress.progress c.next_id-next.result.number c.in_ok-check.ensures.step.0 c.rules.ensures.tracked c.requires.may
     c.plan.ensures c.in_ok-progress.ensures c.next_id-next.ensures.number
 
 pub returns-clause-own : goal.returns-clause-own

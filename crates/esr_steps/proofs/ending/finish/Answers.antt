@@ -9,7 +9,8 @@ ended-requires g c = seat_is_kept g.K.Told.start c.args.repo.now c.check.new.sel
 
 pub note-requires-clause-may : goal.note-requires-clause-may
 note-requires-clause-may g c =
-    may_finish g.K.Told.start c.args.repo.now c.check.new.self c.args.ticket c.plan.result.now c.in_ok-progress.progress c.next_id-next.result.number c.in_ok-check.ensures.step.0 c.requires.may c.rules.ensures.stale c.plan.ensures c.in_ok-progress.ensures c.next_id-next.ensures.number
+    may_finish g.K.Told.start c.args.repo.now c.check.new.self c.args.ticket c.plan.result.now c.in_ok-progress.progress c.next_id-next.result.number
+    c.in_ok-check.ensures.step.0 c.requires.may c.rules.ensures.stale c.plan.ensures c.in_ok-progress.ensures c.next_id-next.ensures.number
 
 pub returns-clause-own : goal.returns-clause-own
 returns-clause-own g c =

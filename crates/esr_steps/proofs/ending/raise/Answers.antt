@@ -23,4 +23,5 @@ returns-in_err-swap-clause-kept g c = raise_left g.K.Told.start c.args.repo.now 
 pub returns-clause-own : goal.returns-clause-own
 returns-clause-own g c =
     raised_ticket g.K.Told.start c.args.repo.now c.check.new.self c.swap.new.self c.args.ticket c.count-generation.result c.in_ok-check.ensures.step.0
-    (c.count-generation.ensures ∙ ap count_of (to_z-of_z w64 c.behind-repo.inside.pending (search rules)) ∙ ap (λ (r : Record). count_of r.pending) c.behind-repo.view_is ∙ ap (λ (r : ClusterRecord). r.ledger.pending) c.record.ensures.record) c.requires.may c.in_ok-swap.ensures.step
+    (c.count-generation.ensures ∙ ap count_of (to_z-of_z w64 c.behind-repo.inside.pending (search rules)) ∙ ap (λ (r : Record). count_of r.pending) c.behind-repo.view_is ∙ ap (λ (r : ClusterRecord). r.ledger.pending) c.record.ensures.record)
+    c.requires.may c.in_ok-swap.ensures.step

@@ -10,7 +10,8 @@ use Rattle.esr_steps.proofs.ending.settle.Goals as goal
 
 pub refuse-requires-clause-may : goal.refuse-requires-clause-may
 refuse-requires-clause-may g c =
-    may_refuse_settle g.K.Told.start c.args.repo.now c.check.new.self c.args.ticket (root_of c.args.root.now) (seat_of_code c.seat-own.result) c.term-now.result c.in_ok-check.ensures.step.0 c.requires.may c.seat-own.ensures c.term-now.ensures.term (search rules)
+    may_refuse_settle g.K.Told.start c.args.repo.now c.check.new.self c.args.ticket (root_of c.args.root.now)
+    (seat_of_code c.seat-own.result) c.term-now.result c.in_ok-check.ensures.step.0 c.requires.may c.seat-own.ensures c.term-now.ensures.term (search rules)
 
 pub settled-requires-clause-unpruned : goal.settled-requires-clause-unpruned
 settled-requires-clause-unpruned g c = subst (λ (log : List Moment). IsUnpruned (ticket_of g.K.Told.start log c.args.ticket)) (sym c.in_ok-check.ensures.step.0) c.requires.unpruned

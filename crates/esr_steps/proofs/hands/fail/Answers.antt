@@ -38,7 +38,8 @@ returns-clause-step g c =
 
 pub returns-clause-own : goal.returns-clause-own
 returns-clause-own g c =
-    fail_own c.entries_tell_the_caller.ensures c.args.hand g.K.Told.start c.args.repo.now c.check.new.self c.note.new.self c.args.who (why_of c.args.why) c.note.result c.in_ok-check.ensures.step.0 c.rules.ensures.tracked c.rules.ensures.read_tracked c.requires.may
+    fail_own c.entries_tell_the_caller.ensures c.args.hand g.K.Told.start c.args.repo.now c.check.new.self c.note.new.self c.args.who
+    (why_of c.args.why) c.note.result c.in_ok-check.ensures.step.0 c.rules.ensures.tracked c.rules.ensures.read_tracked c.requires.may
     (subst (λ (step : Step). Did g.K.Told.start c.check.new.self c.note.new.self c.args.who step (λ _. HasEnded) c.note.result) c.fails-2.ensures c.note.ensures.step)
 
 pub returns-clause-kept : goal.returns-clause-kept

@@ -23,7 +23,8 @@ shard_read-requires g c =
 
 pub returns-in_ok-unit_failed-in-Unit : goal.returns-in_ok-unit_failed-in-Unit
 returns-in_ok-unit_failed-in-Unit g c =
-    subst (λ (h : Hand). IsPlanAfter h (world_of g.K.Told.start c.args.repo.now) c.args.who (Some c.in_ok-unit_failed-in-Unit.field-0)) (sym c.in-Unit.is) (c.in_ok-unit_failed-in-Unit.ensures (world_of g.K.Told.start c.args.repo.now) c.plan.ensures (sym c.term.ensures.term))
+    subst (λ (h : Hand). IsPlanAfter h (world_of g.K.Told.start c.args.repo.now) c.args.who (Some c.in_ok-unit_failed-in-Unit.field-0))
+    (sym c.in-Unit.is) (c.in_ok-unit_failed-in-Unit.ensures (world_of g.K.Told.start c.args.repo.now) c.plan.ensures (sym c.term.ensures.term))
 
 pub returns-in_ok-delete_failed-in-Delete : goal.returns-in_ok-delete_failed-in-Delete
 returns-in_ok-delete_failed-in-Delete g c =

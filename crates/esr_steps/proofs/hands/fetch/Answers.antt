@@ -14,7 +14,8 @@ pub check-requires-clause-fresh : goal.check-requires-clause-fresh
 check-requires-clause-fresh g c = fresh_as g.K.Told.start c.args.repo.now c.args.who (step_of c.fetches.result) (fetch_step c.args.hand (name_of c.args.name)) c.fetches.ensures c.requires.new
 
 pub check-requires-clause-own : goal.check-requires-clause-own
-check-requires-clause-own g c = own_as g.K.Told.start c.args.repo.now c.args.who (step_of c.fetches.result) (fetch_step c.args.hand (name_of c.args.name)) c.fetches.ensures (fetch_reads c.args.hand g.K.Told.start c.args.repo.now c.args.who (name_of c.args.name) c.rules.ensures.read_tracked c.requires.may)
+check-requires-clause-own g c = own_as g.K.Told.start c.args.repo.now c.args.who (step_of c.fetches.result) (fetch_step c.args.hand (name_of c.args.name)) c.fetches.ensures
+    (fetch_reads c.args.hand g.K.Told.start c.args.repo.now c.args.who (name_of c.args.name) c.rules.ensures.read_tracked c.requires.may)
 
 pub call_fetch-requires-clause-goes : goal.call_fetch-requires-clause-goes
 call_fetch-requires-clause-goes g c =
@@ -32,7 +33,8 @@ returns-clause-step g c =
 
 pub returns-clause-own : goal.returns-clause-own
 returns-clause-own g c =
-    fetch_own c.entries_tell_the_caller.ensures c.args.hand g.D.Fetch.Fetch.left g.K.Told.start c.args.repo.now c.check.new.self c.call_fetch.new.self c.args.who (name_of c.args.name) c.call_fetch.result c.in_ok-check.ensures.step.0 c.rules-2.ensures.read_tracked c.requires.may
+    fetch_own c.entries_tell_the_caller.ensures c.args.hand g.D.Fetch.Fetch.left g.K.Told.start c.args.repo.now c.check.new.self c.call_fetch.new.self c.args.who
+    (name_of c.args.name) c.call_fetch.result c.in_ok-check.ensures.step.0 c.rules-2.ensures.read_tracked c.requires.may
     (subst (λ (step : Step). FetchDid g.D.Fetch.Fetch.left g.K.Told.start c.check.new.self c.call_fetch.new.self c.args.who step (name_of c.args.name) c.call_fetch.result) c.fetches-2.ensures c.call_fetch.ensures.step)
 
 pub returns-clause-kept : goal.returns-clause-kept

@@ -1,8 +1,10 @@
-use Rattle.std.proofs.Common.{ap, ◌∙◌, refl}
+use Rattle.std.proofs.Common.{None, ap, ◌∙◌, refl}
 use Rattle.esr_model.specs.Values.{ClusterRecord}
+use Rattle.esr_core.specs.Entry.{DroppedStep, HasEnded}
 use Rattle.esr_record.specs.Record.{Record}
 use Rattle.esr_formats.specs.Clusters.{cluster_of}
 use Rattle.esr_steps.proofs.Swapping.{may_swap_drop, leaves_out}
+use Rattle.esr_steps.proofs.WithOps.{swap_with}
 use Rattle.esr_steps.proofs.Stepping.{seat_is_kept}
 use Rattle.esr_steps.proofs.renewing.without_op.Goals as goal
 
@@ -11,5 +13,8 @@ dropped-requires g c = seat_is_kept g.K.Told.start c.args.repo.now c.args.repo.n
 
 pub returns : goal.returns
 returns g c =
-    may_swap_drop g.K.Told.start c.args.repo.now c.args.ticket _ c.plan.result.now c.in_ok-progress.progress c.next_id.result.number c.rules.ensures.infos c.rules.ensures.tracked c.requires.may c.requires.present c.plan.ensures c.in_ok-progress.ensures
-    (ap (λ (r : Record). (cluster_of r).ledger) (c.cluster.view_is ∙ c.in_ok-cluster.ensures) ∙ ap (λ (x : ClusterRecord). x.ledger) c.record.ensures.record) c.in_ok-cluster-inside.ensures c.next_id.ensures.number
+    swap_with g.K.Told.start c.args.repo.now c.args.ticket DroppedStep HasEnded c.in_ok-cluster.cluster None None None c.in_ok-progress.progress
+    c.next_id-next.result c.with_ops.result c.with_ops.ensures.is c.with_ops.ensures.ledger c.with_ops.ensures.ops (λ cluster ledger ops.
+    may_swap_drop g.K.Told.start c.args.repo.now c.args.ticket cluster c.plan.result.now c.in_ok-progress.progress c.next_id-next.result.number
+    c.rules.ensures.infos c.rules.ensures.tracked c.requires.may c.requires.present c.plan.ensures c.in_ok-progress.ensures
+    (ledger ∙ ap (λ (r : Record). (cluster_of r).ledger) c.in_ok-cluster.ensures ∙ ap (λ (x : ClusterRecord). x.ledger) c.record.ensures.record) ops c.next_id-next.ensures.number)

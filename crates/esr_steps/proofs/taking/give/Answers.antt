@@ -17,3 +17,6 @@ returns-in-Ok-note-clause-took g c =
 pub returns-in-Ok-note-clause-bare : goal.returns-in-Ok-note-clause-bare
 returns-in-Ok-note-clause-bare g c =
     bare g.K.Told.start c.args.repo.now c.note.new.self c.args.ready c.in-Ok.new_root c.requires.gives c.in-Ok.ensures.root c.in-Ok.ensures.none (unit_of c.in-Ok.given) c.requires.base c.in-Ok.ensures.given c.in-Ok-note.ensures.step
+
+pub returns-in-Ok-note-clause-rest : goal.returns-in-Ok-note-clause-rest
+returns-in-Ok-note-clause-rest g c = c.in-Ok.ensures.none

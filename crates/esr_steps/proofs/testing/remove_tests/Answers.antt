@@ -18,7 +18,8 @@ call_remove-requires-clause-may g c =
 
 pub returns-clause-step : goal.returns-clause-step
 returns-clause-step g c =
-    removed_did g.K.Told.start c.args.repo.now c.check.new.self c.call_remove.new.self (step_of c.in_ok-step.step) c.as_slice-names.result.now c.args.names.now c.call_remove.result c.in_ok-check.ensures.step.0 c.in_ok-step.ensures c.as_slice-names.ensures c.call_remove.ensures.step
+    removed_did g.K.Told.start c.args.repo.now c.check.new.self c.call_remove.new.self
+    (step_of c.in_ok-step.step) c.as_slice-names.result.now c.args.names.now c.call_remove.result c.in_ok-check.ensures.step.0 c.in_ok-step.ensures c.as_slice-names.ensures c.call_remove.ensures.step
 
 pub returns-clause-own : goal.returns-clause-own
 returns-clause-own g c =

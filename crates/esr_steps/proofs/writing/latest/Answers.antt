@@ -10,4 +10,5 @@ pub call_replace-requires-clause-may : goal.call_replace-requires-clause-may
 call_replace-requires-clause-may g c = may_replace g.K.Told.start c.args.repo.now c.check.new.self c.args.ticket (g.D.Stage.Stage.contents c.args.stage.stage) c.in_ok-check.ensures.step.0 c.requires.may
 
 pub returns-clause-own : goal.returns-clause-own
-returns-clause-own g c = replaced_ticket g.K.Told.start c.args.repo.now c.check.new.self c.call_replace.new.self c.args.ticket (g.D.Stage.Stage.contents c.args.stage.stage) c.call_replace.result c.in_ok-check.ensures.step.0 c.requires.may c.call_replace.ensures.step
+returns-clause-own g c =
+    replaced_ticket g.K.Told.start c.args.repo.now c.check.new.self c.call_replace.new.self c.args.ticket (g.D.Stage.Stage.contents c.args.stage.stage) c.call_replace.result c.in_ok-check.ensures.step.0 c.requires.may c.call_replace.ensures.step

@@ -24,7 +24,8 @@ work_both-one-requires-clause-one g c = λ lives within.
 
 pub work_both-one-requires-clause-other : goal.work_both-one-requires-clause-other
 work_both-one-requires-clause-other g c = λ lives within.
-    share_is_new g.Q.Desk.start g.B.Since.before c.args.lock c.args.pass c.split-rest.result.1 c.requires.new c.split-rest.ensures.own.1 (c.split-rest.ensures.new_places.0 ∙ c.split-most.ensures.old_places.0) c.split-rest.ensures.new_places.1 c.split-rest.ensures.new_turns.1
+    share_is_new g.Q.Desk.start g.B.Since.before c.args.lock c.args.pass c.split-rest.result.1 c.requires.new c.split-rest.ensures.own.1
+    (c.split-rest.ensures.new_places.0 ∙ c.split-most.ensures.old_places.0) c.split-rest.ensures.new_places.1 c.split-rest.ensures.new_turns.1
 
 pub close-sitting-requires-clause-all : goal.close-sitting-requires-clause-all
 close-sitting-requires-clause-all g c =

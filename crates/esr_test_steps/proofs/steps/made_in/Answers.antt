@@ -16,7 +16,8 @@ made-requires-clause-begun g c κs within =
     spent_begun
     (start_of (telling (g.S.Sources.told c.args.sources.now) (g.T.Targets.told c.args.targets.now)) 16777216 (is_calm_by l.sure) l (begun_world (now l) (cluster_of k.cluster) (root_of k.root) k.plan))
     l.clock l.since l k
-    (begins c.opened_worlds_track_restores.ensures (telling (g.S.Sources.told c.args.sources.now) (g.T.Targets.told c.args.targets.now)) 16777216 (is_calm_by l.sure) (g.D.Depot.look c.args.depot) l k c.in-Ok.ensures.opened c.in-Ok.ensures.listed c.only_now.ensures)
+    (begins c.opened_worlds_track_restores.ensures (telling (g.S.Sources.told c.args.sources.now) (g.T.Targets.told c.args.targets.now)) 16777216
+    (is_calm_by l.sure) (g.D.Depot.look c.args.depot) l k c.in-Ok.ensures.opened c.in-Ok.ensures.listed c.only_now.ensures)
 
 pub made-requires-clause-outside : goal.made-requires-clause-outside
 made-requires-clause-outside g c κs within =

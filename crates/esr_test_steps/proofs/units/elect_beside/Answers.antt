@@ -9,7 +9,8 @@ returns-clause-mine g c =
 
 pub returns-clause-held : goal.returns-clause-held
 returns-clause-held g c =
-    stays_elected g.K.Told.start c.requires.alone c.other_tickets_stay.ensures.nothing c.args.desk.now c.elect.new.self c.in_ok-elect.field-0 c.args.held.now c.in_ok-elect.ensures.step (is_some c.args.held.now.ready.ticket c.requires.mine.some) c.requires.held
+    stays_elected g.K.Told.start c.requires.alone c.other_tickets_stay.ensures.nothing c.args.desk.now c.elect.new.self c.in_ok-elect.field-0 c.args.held.now c.in_ok-elect.ensures.step
+    (is_some c.args.held.now.ready.ticket c.requires.mine.some) c.requires.held
 
 pub returns-clause-new : goal.returns-clause-new
 returns-clause-new g c =

@@ -5,14 +5,15 @@ use Rattle.esr_desk.specs.Calls.{HasTaken, calls_at}
 use Rattle.esr_desk.specs.Grew.{GrewBy}
 use Rattle.esr_desk.specs.Own.{made_of}
 use Rattle.esr_desk.specs.Taken.{Took}
-use Rattle.esr_test_steps.proofs.Staying.{is_some, stays_beside, none_beside, taken_same}
+use Rattle.esr_finish.specs.Runs.{taken_on}
+use Rattle.esr_test_steps.proofs.Staying.{is_some, stays_beside, none_beside}
 use Rattle.esr_test_steps.proofs.units.work_beside.Goals as goal
 
 pub returns-clause-mine : goal.returns-clause-mine
 returns-clause-mine g c = go c.work_unit.result c.work_unit.ensures.calls
   where
     go : (r : Result Unit Trouble) → OnOk r (calls_at 0 c.work_unit.new.desk ≡ calls_at 0 c.take.new.desk) → OnOk r (HasTaken (calls_at 0 c.work_unit.new.desk) c.args.held.now.ready.ticket)
-    go (Ok x) same = taken_same (calls_at 0 c.take.new.desk) (calls_at 0 c.work_unit.new.desk) c.args.held.now.ready.ticket same (c.in_ok-unit.ensures.more c.args.held.now.ready.ticket c.requires.mine)
+    go (Ok x) same = taken_on (calls_at 0 c.take.new.desk) (calls_at 0 c.work_unit.new.desk) c.args.held.now.ready.ticket same (c.in_ok-unit.ensures.more c.args.held.now.ready.ticket c.requires.mine)
     go (Err e) same = tt
 
 pub returns-clause-held : goal.returns-clause-held

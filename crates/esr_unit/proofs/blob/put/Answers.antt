@@ -17,7 +17,7 @@ use Rattle.esr_desk.specs.Grew.{GrewBy, grew_by_on, outcome_grew_by}
 use Rattle.esr_unit.specs.declared.trouble.Trouble.TheVariants.{Step}
 use Rattle.esr_unit.specs.Put.{PutErr}
 use Rattle.esr_unit.specs.Objects.{is_faulty, never_err, on_ok, told_append}
-use Rattle.esr_unit.proofs.Steps.{passed, on_err}
+use Rattle.esr_unit.specs.Refusals.{passed_on, on_err}
 use Rattle.esr_unit.proofs.Bytes.{begun_same}
 use Rattle.esr_unit.proofs.Reports.{begin_refused, commit_refused}
 use Rattle.esr_unit.proofs.blob.put.Goals as goal
@@ -36,7 +36,7 @@ returns-in_err-named-clause-trouble g c =
     let s = g.Q.Desk.start in
     let new = g.Q.Desk.seen c.begin.new.self in
     let refusal = c.in_err-named.field-0.0 in
-    passed c.from_residual.result (PutErr g.Q.Stage.Counted.faults s new c.args.ticket (name_of c.args.name)) (Step refusal) c.from_residual.ensures.1
+    passed_on c.from_residual.result (PutErr g.Q.Stage.Counted.faults s new c.args.ticket (name_of c.args.name)) (Step refusal) c.from_residual.ensures.1
     (begin_refused s (g.Q.Desk.seen c.args.desk.now) new c.args.ticket (name_of c.args.name) refusal c.in_err-named.ensures.step)
 
 pub returns-in_err-named-clause-grew : goal.returns-in_err-named-clause-grew
@@ -86,13 +86,14 @@ returns-in_err-commit-clause-trouble g c =
     let s = g.Q.Desk.start in
     let new = g.Q.Desk.seen c.commit.new.self in
     let refusal = c.in_err-commit.field-0.0 in
-    passed c.from_residual-in_err-commit.result (PutErr g.Q.Stage.Counted.faults s new c.args.ticket (name_of c.args.name)) (Step refusal) c.from_residual-in_err-commit.ensures.1
+    passed_on c.from_residual-in_err-commit.result (PutErr g.Q.Stage.Counted.faults s new c.args.ticket (name_of c.args.name)) (Step refusal) c.from_residual-in_err-commit.ensures.1
     (commit_refused s (g.Q.Desk.seen c.begin.new.self) new c.args.ticket c.args.name c.in_ok-named.named.name c.in_ok-named.ensures.name refusal c.in_err-commit.ensures.step)
 
 pub returns-in_err-commit-clause-grew : goal.returns-in_err-commit-clause-grew
 returns-in_err-commit-clause-grew g c =
     let new = g.Q.Desk.seen c.commit.new.self in
-    begun_grew g (goal.at.returns-in_err-commit-clause-grew g c).In_ok-named new (outcome_grew_by g.Q.Desk.start (g.Q.Desk.seen c.begin.new.self) new c.args.ticket (CommitStep (name_of c.in_ok-named.named.name)) commit_reply c.commit.result c.commit.ensures.step)
+    begun_grew g (goal.at.returns-in_err-commit-clause-grew g c).In_ok-named new
+    (outcome_grew_by g.Q.Desk.start (g.Q.Desk.seen c.begin.new.self) new c.args.ticket (CommitStep (name_of c.in_ok-named.named.name)) commit_reply c.commit.result c.commit.ensures.step)
 
 pub returns-clause-own : goal.returns-clause-own
 returns-clause-own g c =

@@ -51,7 +51,8 @@ returns-in-Ok-clause-end g c =
 
 pub returns-in-Ok-clause-report : goal.returns-in-Ok-clause-report
 returns-in-Ok-clause-report g c =
-    subst (λ (ending : Ending g.row.Q-Stage.Denot g.row.Q-Fetch.Denot g.row.Q-Shard.Denot g.row.Q-Target.Denot). IsReported c.args.hand g.Q.Desk.start (g.Q.Desk.seen c.args.desk.now) (g.Q.Desk.seen c.fail.new.self) c.args.who ending (Failed c.in-Failed.why)) (sym c.in-Failed.is)
+    subst (λ (ending : Ending g.row.Q-Stage.Denot g.row.Q-Fetch.Denot g.row.Q-Shard.Denot g.row.Q-Target.Denot).
+    IsReported c.args.hand g.Q.Desk.start (g.Q.Desk.seen c.args.desk.now) (g.Q.Desk.seen c.fail.new.self) c.args.who ending (Failed c.in-Failed.why)) (sym c.in-Failed.is)
     c.in-Ok.ensures.step
 
 pub returns-in-Ok-clause-grew : goal.returns-in-Ok-clause-grew
@@ -77,12 +78,15 @@ returns-in-Err-clause-end g c =
     let e = evidence g.Q.Stage.Counted.faults g.Q.Fetch.Counted.faults g.Q.Shard.Counted.faults g.Q.Target.Counted.faults g.Q.Shard.Shard.told g.Q.Target.Target.told in
     subst (λ (ending : Ending g.row.Q-Stage.Denot g.row.Q-Fetch.Denot g.row.Q-Shard.Denot g.row.Q-Target.Denot). GivenUp c.args.hand e s old new who ending (Stopped c.in-Err.refusal)) (sym c.in-Failed.is) (record {
       same = c.in-Err.ensures.kept;
-      halts = fail_halts c.args.hand s old new who (why_of c.in-Failed.why) (subst (λ (ending : Ending g.row.Q-Stage.Denot g.row.Q-Fetch.Denot g.row.Q-Shard.Denot g.row.Q-Target.Denot). MayEnd c.args.hand s old who ending) c.in-Failed.is c.requires.may) c.in-Err.ensures.kept c.refusals_are_of_their_steps.ensures c.in-Err.refusal c.in-Err.ensures.step;
+      halts =
+          fail_halts c.args.hand s old new who (why_of c.in-Failed.why) (subst (λ (ending : Ending g.row.Q-Stage.Denot g.row.Q-Fetch.Denot g.row.Q-Shard.Denot g.row.Q-Target.Denot). MayEnd c.args.hand s old who ending) c.in-Failed.is c.requires.may)
+          c.in-Err.ensures.kept c.refusals_are_of_their_steps.ensures c.in-Err.refusal c.in-Err.ensures.step;
     })
 
 pub returns-in-Err-clause-report : goal.returns-in-Err-clause-report
 returns-in-Err-clause-report g c =
-    subst (λ (ending : Ending g.row.Q-Stage.Denot g.row.Q-Fetch.Denot g.row.Q-Shard.Denot g.row.Q-Target.Denot). IsReported c.args.hand g.Q.Desk.start (g.Q.Desk.seen c.args.desk.now) (g.Q.Desk.seen c.fail.new.self) c.args.who ending (Stopped c.in-Err.refusal)) (sym c.in-Failed.is)
+    subst (λ (ending : Ending g.row.Q-Stage.Denot g.row.Q-Fetch.Denot g.row.Q-Shard.Denot g.row.Q-Target.Denot).
+    IsReported c.args.hand g.Q.Desk.start (g.Q.Desk.seen c.args.desk.now) (g.Q.Desk.seen c.fail.new.self) c.args.who ending (Stopped c.in-Err.refusal)) (sym c.in-Failed.is)
     c.in-Err.ensures.step.0
 
 pub returns-in-Err-clause-grew : goal.returns-in-Err-clause-grew

@@ -12,7 +12,8 @@ use Rattle.esr_desk.specs.Grew.{outcome_grew_by}
 use Rattle.esr_unit.specs.declared.trouble.Trouble.TheVariants.{Step}
 use Rattle.esr_unit.specs.Fetch.{FetchErr, IsFetched}
 use Rattle.esr_unit.specs.Objects.{is_faulty}
-use Rattle.esr_unit.proofs.Steps.{passed, on_err, fetch_maker, mine_on, leaves_on, outcome_one, outcome_asked}
+use Rattle.esr_unit.specs.Refusals.{passed_on, on_err}
+use Rattle.esr_unit.proofs.Steps.{fetch_maker, mine_on, leaves_on, outcome_one, outcome_asked}
 use Rattle.esr_unit.proofs.Bytes.{did_fail, came, told_left, fetched_own, absent_own}
 use Rattle.esr_unit.proofs.fetch.fetch_whole.Goals as goal
 use Rattle.esr_unit.proofs.fetch.fetch_whole.Goals.{In-Some}
@@ -32,7 +33,7 @@ returns-in_err-fetch-clause-trouble g c =
     let old = g.Q.Desk.seen c.args.desk.now in
     let new = g.Q.Desk.seen c.fetch.new.self in
     let step = fetch_step c.args.hand (name_of c.args.name) in
-    passed c.from_residual.result (FetchErr g.Q.Fetch.Counted.faults s old new c.args.who step) (Step c.in_err-fetch.field-0.0) c.from_residual.ensures.1 (inl c.in_err-fetch.ensures.step)
+    passed_on c.from_residual.result (FetchErr g.Q.Fetch.Counted.faults s old new c.args.who step) (Step c.in_err-fetch.field-0.0) c.from_residual.ensures.1 (inl c.in_err-fetch.ensures.step)
 
 pub returns-in_err-fetch-clause-made : goal.returns-in_err-fetch-clause-made
 returns-in_err-fetch-clause-made g c =

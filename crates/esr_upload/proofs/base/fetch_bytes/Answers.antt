@@ -9,11 +9,11 @@ use Rattle.esr_desk.specs.Own.{Own, own_of}
 use Rattle.esr_desk.specs.Hands.{own_fetched}
 use Rattle.esr_desk.specs.Outcome.{Stepped, fetch_reply}
 use Rattle.esr_desk.specs.Told.{fetch_tells}
-use Rattle.esr_unit.specs.Refusals.{stepped_had}
+use Rattle.esr_unit.specs.Refusals.{stepped_had, passed_on}
 use Rattle.esr_upload.specs.Trouble.{Shown}
 use Rattle.esr_upload.specs.BaseReads.{fetch_went, left_went, went_work}
 use Rattle.esr_upload.proofs.Reading.{index_name, absent_shown}
-use Rattle.esr_upload.specs.Ends.{passed, fetch_shown}
+use Rattle.esr_upload.specs.Ends.{fetch_shown}
 use Rattle.esr_upload.proofs.base.fetch_bytes.Goals as goal
 
 pub fetch_whole-requires-clause-layout : goal.fetch_whole-requires-clause-layout
@@ -47,7 +47,7 @@ returns-in_err-bytes-clause-trouble g c =
     let name = ShardIndex i k c.args.base.number in
     let trouble = c.in_err-bytes.field-0.0 in
     let went = left_went s old new who name c.fetch_whole.ensures.grew c.in_err-bytes.ensures.left in
-    passed c.from_residual.result (Shown e 0 (Some []) s new who) trouble c.from_residual.ensures.1
+    passed_on c.from_residual.result (Shown e 0 (Some []) s new who) trouble c.from_residual.ensures.1
     (fetch_shown e 0 (Some []) s old new who i k (went_work s old new who i k went c.requires.at) (FetchStep name) trouble c.refusals_are_of_their_steps.ensures tt (λ swap. swap) c.in_err-bytes.ensures.trouble)
 
 pub returns-in_err-bytes-clause-calls : goal.returns-in_err-bytes-clause-calls

@@ -14,13 +14,14 @@ use Rattle.esr_upload.specs.Trouble.{Shown}
 use Rattle.esr_core.specs.World.{Ticket}
 use Rattle.esr_upload.specs.Runs.{went_same}
 use Rattle.esr_unit.specs.Objects.{has_risen, is_faulty}
-use Rattle.esr_upload.specs.Ends.{passed, step_shown}
+use Rattle.esr_upload.specs.Ends.{step_shown}
 use Rattle.esr_upload.proofs.FileParts.{begun_is, stage_holds, can_commit, went_refused, not_there, part_put, went_put}
 use Rattle.esr_names.specs.declared.blob.BlobName.{BlobName as CodeName}
 use Rattle.esr_model.specs.Names.{BlobName}
 use Rattle.esr_desk.specs.Once.{IsFresh}
 use Rattle.esr_desk.specs.Taken.{committed_by}
 use Rattle.esr_desk.specs.Told.{begin_fresh, commit_fresh, blob_tells}
+use Rattle.esr_unit.specs.Refusals.{passed_on}
 use Rattle.esr_upload.proofs.file.put_part.Goals as goal
 
 pub begin-requires-clause-may : goal.begin-requires-clause-may
@@ -37,7 +38,7 @@ returns-in_err-named-clause-trouble g c =
     let n = g.S.Counted.faults c.args.shard.now in
     let may = c.requires.may in
     let same = begun_is s c.args.name c.begin.result (ticket_of s old c.args.ticket) (ticket_of s log c.args.ticket) may c.begin.ensures.own in
-    passed c.from_residual.result (Shown e n files s log c.args.ticket) (Step refusal) c.from_residual.ensures.1
+    passed_on c.from_residual.result (Shown e n files s log c.args.ticket) (Step refusal) c.from_residual.ensures.1
     (step_shown e n files s old log c.args.ticket may.index may.number (ap (λ (t : Ticket). t.work) same ∙ may.work) (BeginStep (name_of c.args.name)) refusal c.refusals_are_of_their_steps.ensures tt (λ swap. swap) c.in_err-named.ensures.step)
 
 pub returns-in_err-named-clause-went : goal.returns-in_err-named-clause-went
@@ -81,7 +82,8 @@ returns-clause-put g c =
     part_put s (g.S.Shard.told c.args.shard.now).left (g.S.Shard.told c.copy_part.new.shard).left (g.Q.Stage.Stage.contents c.in_ok-named.named.stage) (g.Q.Stage.Stage.contents c.copy_part.new.stage)
     c.args.hasher.now c.copy_part.new.hasher (ticket_of s (g.Q.Desk.seen c.args.desk.now) c.args.ticket) (ticket_of s (g.Q.Desk.seen c.begin.new.self) c.args.ticket) (ticket_of s (g.Q.Desk.seen c.commit.new.self) c.args.ticket)
     c.args.name c.in_ok-named.named.name c.args.size c.in_ok-commit.field-0
-    (subst (λ (full : Bool). Copied (g.S.Shard.told c.args.shard.now).left (g.S.Shard.told c.copy_part.new.shard).left (g.Q.Stage.Stage.contents c.in_ok-named.named.stage) (g.Q.Stage.Stage.contents c.copy_part.new.stage) c.args.hasher.now c.copy_part.new.hasher c.args.size full) c.in-Ok-true.field-0-test c.in-Ok-true.ensures.copied)
+    (subst (λ (full : Bool). Copied (g.S.Shard.told c.args.shard.now).left (g.S.Shard.told c.copy_part.new.shard).left (g.Q.Stage.Stage.contents c.in_ok-named.named.stage)
+    (g.Q.Stage.Stage.contents c.copy_part.new.stage) c.args.hasher.now c.copy_part.new.hasher c.args.size full) c.in-Ok-true.field-0-test c.in-Ok-true.ensures.copied)
     begun.contents begun.own begun.name
     (not_there c.args.name c.in_ok-named.named.name c.in_ok-commit.field-0 begun.name c.requires.may.own committed.found) committed.own
 
@@ -107,7 +109,7 @@ returns-in_err-commit-clause-trouble g c =
     let files = (g.S.Shard.told c.args.shard.now).files in
     let n = g.S.Counted.faults c.copy_part.new.shard in
     let may = c.requires.may in
-    passed c.from_residual-in_err-commit.result (Shown e n files s log c.args.ticket) (Step refusal) c.from_residual-in_err-commit.ensures.1
+    passed_on c.from_residual-in_err-commit.result (Shown e n files s log c.args.ticket) (Step refusal) c.from_residual-in_err-commit.ensures.1
     (step_shown e n files s mid log c.args.ticket may.index may.number (ap (λ (t : Ticket). t.work) (c.in_err-commit.ensures.kept ∙ c.in_ok-named.ensures.own) ∙ may.work) step refusal c.refusals_are_of_their_steps.ensures tt (λ swap. swap)
     c.in_err-commit.ensures.step)
 

@@ -5,10 +5,10 @@ use Rattle.esr_desk.specs.Start.{ticket_of}
 use Rattle.esr_upload.specs.Pieces.{blob_name}
 use Rattle.esr_desk.specs.Calls.{Call, HasTaken}
 use Rattle.esr_desk.specs.Evidence.{evidence}
+use Rattle.esr_unit.specs.Refusals.{passed_on}
 use Rattle.esr_upload.specs.Trouble.{Shown}
 use Rattle.esr_upload.specs.Runs.{went_none, went_on}
 use Rattle.esr_upload.proofs.Going.{read_on, same_read, steady_on}
-use Rattle.esr_upload.specs.Ends.{passed}
 use Rattle.esr_upload.proofs.Pieces.{can_store_next, cut_none, cut_put, consumes_none, consumes_more, all_put, short_put}
 use Rattle.esr_upload.proofs.file.put_parts.Goals as goal
 
@@ -148,5 +148,5 @@ returns-in_err-put_part-clause-trouble g c =
     let n = g.S.Counted.faults c.put_part.new.shard in
     let trouble = c.in_err-put_part.field-0.0 in
     let files : (g.S.Shard.told c.loop-number.shard).files ≡ (g.S.Shard.told c.args.shard.now).files = ap (λ (t : ShardTold). t.files) c.loop-number.invariant.kept in
-    passed c.from_residual.result (Shown e n (g.S.Shard.told c.args.shard.now).files s new c.args.ticket) trouble c.from_residual.ensures.1
+    passed_on c.from_residual.result (Shown e n (g.S.Shard.told c.args.shard.now).files s new c.args.ticket) trouble c.from_residual.ensures.1
     (subst (λ (o : Option FileList). Shown e n o s new c.args.ticket trouble) files c.in_err-put_part.ensures.trouble)

@@ -3,11 +3,11 @@ use Rattle.esr_source.specs.Files.{bytes_at}
 use Rattle.esr_source.specs.Told.{ShardTold, FileList}
 use Rattle.esr_desk.specs.Evidence.{evidence}
 use Rattle.esr_desk.specs.Start.{ticket_of}
+use Rattle.esr_unit.specs.Refusals.{passed_on}
 use Rattle.esr_upload.specs.Trouble.{Shown}
 use Rattle.esr_upload.specs.Runs.{went_none}
 use Rattle.esr_upload.proofs.Going.{read_on, same_read, steady_on}
 use Rattle.esr_upload.proofs.Pieces.{all_numbered}
-use Rattle.esr_upload.specs.Ends.{passed}
 use Rattle.esr_upload.proofs.Refusing.{start_shown, change_shown}
 use Rattle.esr_upload.proofs.Untold.{untold_at}
 use Rattle.esr_upload.proofs.Told.{stored_all, all_told, changed_untold, prints_same, prints_differ}
@@ -23,7 +23,7 @@ returns-in_err-start_file-clause-trouble g c =
     let e = evidence g.Q.Stage.Counted.faults g.Q.Fetch.Counted.faults g.Q.Shard.Counted.faults g.Q.Target.Counted.faults g.Q.Shard.Shard.told g.Q.Target.Target.told in
     let n = g.S.Counted.faults c.start_file.new.shard in
     let files = (g.S.Shard.told c.args.shard.now).files in
-    passed c.from_residual.result (Shown e n files s log c.args.ticket) c.in_err-start_file.field-0.0 c.from_residual.ensures.1 (start_shown e n files s log c.args.ticket c.in_err-start_file.field-0.0 c.in_err-start_file.ensures.trouble)
+    passed_on c.from_residual.result (Shown e n files s log c.args.ticket) c.in_err-start_file.field-0.0 c.from_residual.ensures.1 (start_shown e n files s log c.args.ticket c.in_err-start_file.field-0.0 c.in_err-start_file.ensures.trouble)
 
 -- ---- the parts
 
@@ -48,7 +48,7 @@ returns-in_err-put_parts-clause-trouble g c =
     let n = g.S.Counted.faults c.put_parts.new.shard in
     let trouble = c.in_err-put_parts.field-0.0 in
     let files : (g.S.Shard.told c.start_file.new.shard).files ≡ (g.S.Shard.told c.args.shard.now).files = ap (λ (t : ShardTold). t.files) c.start_file.ensures.kept in
-    passed c.from_residual-in_err-put_parts.result (Shown e n (g.S.Shard.told c.args.shard.now).files s new c.args.ticket) trouble c.from_residual-in_err-put_parts.ensures.1
+    passed_on c.from_residual-in_err-put_parts.result (Shown e n (g.S.Shard.told c.args.shard.now).files s new c.args.ticket) trouble c.from_residual-in_err-put_parts.ensures.1
     (subst (λ (o : Option FileList). Shown e n o s new c.args.ticket trouble) files c.in_err-put_parts.ensures.trouble)
 
 -- ---- it has changed

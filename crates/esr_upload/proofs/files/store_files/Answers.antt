@@ -15,7 +15,8 @@ use Rattle.esr_upload.specs.Stored.{IsToldBy}
 use Rattle.esr_upload.specs.Trouble.{Shown}
 use Rattle.esr_unit.specs.declared.trouble.Trouble.TheVariants.{Step}
 use Rattle.esr_desk.specs.declared.refusal.StepRefusal.TheVariants.{Memory}
-use Rattle.esr_upload.specs.Ends.{passed, memory_shown}
+use Rattle.esr_unit.specs.Refusals.{passed_on}
+use Rattle.esr_upload.specs.Ends.{memory_shown}
 use Rattle.esr_upload.specs.Commits.{writes_keep, writes_at}
 use Rattle.esr_upload.proofs.Writing.{told_on}
 use Rattle.esr_upload.specs.Runs.{went_none, went_on}
@@ -175,7 +176,7 @@ returns-in_err-entry-clause-trouble g c =
     let e = evidence g.Q.Stage.Counted.faults g.Q.Fetch.Counted.faults g.Q.Shard.Counted.faults g.Q.Target.Counted.faults g.Q.Shard.Shard.told g.Q.Target.Target.told in
     let n = g.S.Counted.faults c.store_one.new.shard in
     let trouble = c.in_err-entry.field-0.0 in
-    passed c.from_residual.result (Shown e n (g.S.Shard.told c.args.shard.now).files s new c.args.ticket) trouble c.from_residual.ensures.1
+    passed_on c.from_residual.result (Shown e n (g.S.Shard.told c.args.shard.now).files s new c.args.ticket) trouble c.from_residual.ensures.1
     (subst (λ (o : Option FileList). Shown e n o s new c.args.ticket trouble) (ap (λ (t : ShardTold). t.files) c.loop-file.invariant.kept) c.in_err-entry.ensures.trouble)
 
 pub returns-in_err-push-clause-trouble : goal.returns-in_err-push-clause-trouble
@@ -185,9 +186,10 @@ returns-in_err-push-clause-trouble g c =
     let e = evidence g.Q.Stage.Counted.faults g.Q.Fetch.Counted.faults g.Q.Shard.Counted.faults g.Q.Target.Counted.faults g.Q.Shard.Shard.told g.Q.Target.Target.told in
     let n = g.S.Counted.faults c.store_one.new.shard in
     let files = (g.S.Shard.told c.args.shard.now).files in
-    passed c.from_residual-in_err-push.result (Shown e n files s new c.args.ticket) (Step Memory) c.from_residual-in_err-push.ensures.1 (memory_shown e n files s new c.args.ticket)
+    passed_on c.from_residual-in_err-push.result (Shown e n files s new c.args.ticket) (Step Memory) c.from_residual-in_err-push.ensures.1 (memory_shown e n files s new c.args.ticket)
 
 pub store_one-requires-clause-listed : goal.store_one-requires-clause-listed
 store_one-requires-clause-listed g c κs within =
     let told = g.S.Shard.told c.args.shard.now in
-    subst (λ (o : Option (List ListedFile)). IsSomeAnd o (λ fs. c.loop-file.file < length fs)) (sym (ap (λ (t : ShardTold). t.listed) c.loop-file.invariant.kept)) (reads_listed told.files told.listed c.args.plans.now c.loop-file.file c.requires.reads c.loop-file-test.true)
+    subst (λ (o : Option (List ListedFile)). IsSomeAnd o (λ fs. c.loop-file.file < length fs)) (sym (ap (λ (t : ShardTold). t.listed) c.loop-file.invariant.kept))
+    (reads_listed told.files told.listed c.args.plans.now c.loop-file.file c.requires.reads c.loop-file-test.true)

@@ -9,9 +9,10 @@ use Rattle.esr_upload.proofs.Noting.{index_unnoted}
 use Rattle.std.proofs.Common.{[], Some, List, sym, subst, ◌∙◌}
 use Rattle.esr_desk.specs.Evidence.{evidence}
 use Rattle.esr_unit.specs.declared.trouble.Trouble.TheVariants.{Step}
+use Rattle.esr_unit.specs.Refusals.{passed_on}
 use Rattle.esr_upload.specs.Trouble.{Shown}
 use Rattle.esr_upload.specs.Worked.{Went}
-use Rattle.esr_upload.specs.Ends.{passed, if_err}
+use Rattle.esr_upload.specs.Ends.{if_err}
 use Rattle.esr_upload.proofs.Refusing.{done_shown}
 use Rattle.esr_upload.specs.Runs.{went_on, went_same}
 use Rattle.esr_upload.proofs.Ending.{has_done}
@@ -30,7 +31,7 @@ returns-in_err-end_shard-clause-trouble g c =
     let new = g.Q.Desk.seen c.end_shard.new.self in
     let refusal = c.in_err-end_shard.field-0.0 in
     let e = evidence g.Q.Stage.Counted.faults g.Q.Fetch.Counted.faults g.Q.Shard.Counted.faults g.Q.Target.Counted.faults g.Q.Shard.Shard.told g.Q.Target.Target.told in
-    passed c.from_residual-in_err-end_shard.result (Shown e 0 (Some []) s new who) (Step refusal) c.from_residual-in_err-end_shard.ensures.1
+    passed_on c.from_residual-in_err-end_shard.result (Shown e 0 (Some []) s new who) (Step refusal) c.from_residual-in_err-end_shard.ensures.1
     (done_shown e 0 (Some []) s mid new who (result_of c.args.outcome.now) refusal c.refusals_are_of_their_steps.ensures c.in_err-end_shard.ensures.step)
 
 pub returns-in_err-end_shard-clause-went : goal.returns-in_err-end_shard-clause-went
@@ -48,7 +49,8 @@ returns-in_err-end_shard-clause-grew g c =
     let who = c.args.ticket in
     let mid = g.Q.Desk.seen c.put_index.new.desk in
     let new = g.Q.Desk.seen c.end_shard.new.self in
-    grew_by_on s who (g.Q.Desk.seen c.args.desk.now) mid new (put_went g (goal.at.returns-in_err-end_shard-clause-grew g c).In_ok-put_index).grew (outcome_grew_by s mid new who (DoneStep (result_of c.args.outcome.now)) (λ x. HasEnded) c.end_shard.result c.end_shard.ensures.step)
+    grew_by_on s who (g.Q.Desk.seen c.args.desk.now) mid new (put_went g (goal.at.returns-in_err-end_shard-clause-grew g c).In_ok-put_index).grew
+    (outcome_grew_by s mid new who (DoneStep (result_of c.args.outcome.now)) (λ x. HasEnded) c.end_shard.result c.end_shard.ensures.step)
 
 pub returns-clause-ok : goal.returns-clause-ok
 returns-clause-ok g c =
@@ -88,7 +90,8 @@ returns-clause-grew g c =
     let who = c.args.ticket in
     let mid = g.Q.Desk.seen c.put_index.new.desk in
     let new = g.Q.Desk.seen c.end_shard.new.self in
-    grew_by_on s who (g.Q.Desk.seen c.args.desk.now) mid new (put_went g (goal.at.returns-clause-grew g c).In_ok-put_index).grew (outcome_grew_by s mid new who (DoneStep (result_of c.args.outcome.now)) (λ x. HasEnded) c.end_shard.result c.end_shard.ensures.step)
+    grew_by_on s who (g.Q.Desk.seen c.args.desk.now) mid new (put_went g (goal.at.returns-clause-grew g c).In_ok-put_index).grew
+    (outcome_grew_by s mid new who (DoneStep (result_of c.args.outcome.now)) (λ x. HasEnded) c.end_shard.result c.end_shard.ensures.step)
 
 pub put_index-requires-clause-mine : goal.put_index-requires-clause-mine
 put_index-requires-clause-mine g c κs within = subst (λ (calls : List Call). HasTaken calls c.args.ticket) (sym c.put_snap.ensures.calls) c.requires.mine

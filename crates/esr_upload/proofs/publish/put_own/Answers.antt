@@ -5,10 +5,10 @@ use Rattle.esr_formats.specs.Names.{name_of}
 use Rattle.esr_desk.specs.Evidence.{evidence}
 use Rattle.esr_desk.specs.Start.{ticket_of}
 use Rattle.esr_desk.specs.Told.{begin_fresh, untold_fresh}
+use Rattle.esr_unit.specs.Refusals.{passed_on}
 use Rattle.esr_upload.specs.Trouble.{Shown}
 use Rattle.esr_upload.specs.Runs.{went_same}
 use Rattle.esr_upload.proofs.Putting.{committed_one, put_went}
-use Rattle.esr_upload.specs.Ends.{passed}
 use Rattle.esr_upload.proofs.Refusing.{put_shown}
 use Rattle.esr_upload.proofs.publish.put_own.Goals as goal
 
@@ -29,7 +29,7 @@ returns-in_err-put-clause-trouble g c =
     let e = evidence g.Q.Stage.Counted.faults g.Q.Fetch.Counted.faults g.Q.Shard.Counted.faults g.Q.Target.Counted.faults g.Q.Shard.Shard.told g.Q.Target.Target.told in
     let work = c.requires.work in
     let trouble = c.in_err-put.field-0.0 in
-    passed c.from_residual.result (Shown e 0 (Some []) s new who) trouble c.from_residual.ensures.1
+    passed_on c.from_residual.result (Shown e 0 (Some []) s new who) trouble c.from_residual.ensures.1
     (put_shown e 0 (Some []) s new who work.0 work.1 (ap (λ (t : Ticket). t.work) c.in_err-put.ensures.left ∙ work.2) (name_of c.args.name) trouble c.refusals_are_of_their_steps.ensures c.in_err-put.ensures.trouble)
 
 pub returns-in_err-put-clause-went : goal.returns-in_err-put-clause-went

@@ -62,10 +62,12 @@ loop-file-init g c =
     }
 
 pub returns-in_err-read_file-clause-same : goal.returns-in_err-read_file-clause-same
-returns-in_err-read_file-clause-same g c = same_on (g.S.Shard.told c.args.shard.now) (g.S.Shard.told c.loop-file.shard) (g.S.Shard.told c.read_file.new.shard) c.loop-file.invariant.same (same_read (g.S.Shard.told c.loop-file.shard) (g.S.Shard.told c.read_file.new.shard) c.read_file.ensures.kept)
+returns-in_err-read_file-clause-same g c = same_on (g.S.Shard.told c.args.shard.now) (g.S.Shard.told c.loop-file.shard)
+    (g.S.Shard.told c.read_file.new.shard) c.loop-file.invariant.same (same_read (g.S.Shard.told c.loop-file.shard) (g.S.Shard.told c.read_file.new.shard) c.read_file.ensures.kept)
 
 pub returns-in_err-push-clause-same : goal.returns-in_err-push-clause-same
-returns-in_err-push-clause-same g c = same_on (g.S.Shard.told c.args.shard.now) (g.S.Shard.told c.loop-file.shard) (g.S.Shard.told c.read_file.new.shard) c.loop-file.invariant.same (same_read (g.S.Shard.told c.loop-file.shard) (g.S.Shard.told c.read_file.new.shard) c.read_file.ensures.kept)
+returns-in_err-push-clause-same g c = same_on (g.S.Shard.told c.args.shard.now) (g.S.Shard.told c.loop-file.shard)
+    (g.S.Shard.told c.read_file.new.shard) c.loop-file.invariant.same (same_read (g.S.Shard.told c.loop-file.shard) (g.S.Shard.told c.read_file.new.shard) c.read_file.ensures.kept)
 
 pub returns-in_err-push-clause-steady : goal.returns-in_err-push-clause-steady
 returns-in_err-push-clause-steady g c =

@@ -15,7 +15,8 @@ use Rattle.esr_upload.proofs.unit.base_of.Goals as goal
 
 pub returns-in-None-clause-based : goal.returns-in-None-clause-based
 returns-in-None-clause-based g c =
-    no_index g.Q.Desk.start c.args.at.index.number c.args.at.number c.args.uuid (ticket_of g.Q.Desk.start (g.Q.Desk.seen c.args.desk.now) c.args.ticket) c.new.result (c.requires.base ∙ ap (λ (o : Option Id). option_map number_of o) c.in-None.is) c.new.ensures
+    no_index g.Q.Desk.start c.args.at.index.number c.args.at.number c.args.uuid (ticket_of g.Q.Desk.start (g.Q.Desk.seen c.args.desk.now) c.args.ticket) c.new.result
+    (c.requires.base ∙ ap (λ (o : Option Id). option_map number_of o) c.in-None.is) c.new.ensures
 
 pub returns-in-None-clause-went : goal.returns-in-None-clause-went
 returns-in-None-clause-went g c = went_none g.Q.Desk.start (g.Q.Desk.seen c.args.desk.now) c.args.ticket

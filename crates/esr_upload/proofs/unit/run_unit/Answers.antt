@@ -51,7 +51,8 @@ of_at : (g : _) (c : In-Err-work g) → IsOf (ticket_of g.Q.Desk.start (g.Q.Desk
 of_at g c =
     let ready = c.args.unit.now.ready in
     let at = c.in-Shard.at in
-    took_of ready.work c.args.unit.now.new_root ready.op ready.copy (ticket_of g.Q.Desk.start (g.Q.Desk.seen c.args.desk.now) ready.ticket) c.in-Shard.uuid at c.in-Shard.index c.in-Shard.place c.in-Shard.is c.requires.fresh (g.S.Shard.Shard.told c.work.new.shard).address
+    took_of ready.work c.args.unit.now.new_root ready.op ready.copy (ticket_of g.Q.Desk.start (g.Q.Desk.seen c.args.desk.now) ready.ticket)
+    c.in-Shard.uuid at c.in-Shard.index c.in-Shard.place c.in-Shard.is c.requires.fresh (g.S.Shard.Shard.told c.work.new.shard).address
     (address_at g c ∙ ap (λ (p : Bytes). address p c.as_str-2.result.now at.number) c.as_str.ensures.text ∙ ap (λ (n : Bytes). address c.in-Shard.place n at.number) c.as_str-2.ensures.text)
 
 -- where that is steady the shard has no fault
@@ -61,7 +62,8 @@ quiet_at : (g : _) (c : In-Err-work g)
 quiet_at g c =
     let shard = c.work.new.shard in
     let made = c.in-Ok.ensures in
-    steady_shard g.Q.Desk.start (g.S.Sources.told c.args.sources.now) c.as_str.result.now c.as_str-2.result.now c.in-Shard.at.number (g.S.Shard.Shard.told shard).address (g.S.Shard.Shard.told c.in-Ok.shard).is_sure (g.S.Shard.Counted.faults c.in-Ok.shard) (g.S.Shard.Counted.faults shard)
+    steady_shard g.Q.Desk.start (g.S.Sources.told c.args.sources.now) c.as_str.result.now c.as_str-2.result.now c.in-Shard.at.number
+    (g.S.Shard.Shard.told shard).address (g.S.Shard.Shard.told c.in-Ok.shard).is_sure (g.S.Shard.Counted.faults c.in-Ok.shard) (g.S.Shard.Counted.faults shard)
     c.requires.sources (address_at g c) made.sure made.count c.work.ensures.steady
 
 -- and the trouble is shown
@@ -84,7 +86,8 @@ pub give_up-requires-clause-may : goal.give_up-requires-clause-may
 give_up-requires-clause-may g c κs within =
     let ready = c.args.unit.now.ready in
     may_end g.Q.Desk.start (g.Q.Desk.seen c.work.new.desk) ready.ticket c.with_shard.result
-    (shard_fails ready.work c.args.unit.now.new_root ready.op ready.copy (ticket_of g.Q.Desk.start (g.Q.Desk.seen c.args.desk.now) ready.ticket) (ticket_of g.Q.Desk.start (g.Q.Desk.seen c.work.new.desk) ready.ticket) c.in-Shard.uuid c.in-Shard.at c.in-Shard.index c.in-Shard.place
+    (shard_fails ready.work c.args.unit.now.new_root ready.op ready.copy (ticket_of g.Q.Desk.start (g.Q.Desk.seen c.args.desk.now) ready.ticket)
+    (ticket_of g.Q.Desk.start (g.Q.Desk.seen c.work.new.desk) ready.ticket) c.in-Shard.uuid c.in-Shard.at c.in-Shard.index c.in-Shard.place
     c.in-Shard.is c.requires.fresh c.in-Err-work.ensures.went.worked)
 
 pub give_up-requires-clause-shown : goal.give_up-requires-clause-shown

@@ -14,12 +14,13 @@ use Rattle.esr_upload.specs.Trouble.{Shown, shown_any}
 use Rattle.esr_upload.specs.Worked.{Went}
 use Rattle.esr_upload.specs.Runs.{went_on, went_same, drew_went}
 use Rattle.esr_upload.proofs.Going.{fetched_later, same_on, same_read, steady_on}
-use Rattle.esr_upload.specs.Ends.{done_on, if_err, passed, step_shown}
+use Rattle.esr_upload.specs.Ends.{done_on, if_err, step_shown}
 use Rattle.esr_upload.proofs.Drawing.{can_draw, has_drawn, drawn_for, ok_on, err_on}
 use Rattle.esr_upload.proofs.Refusing.{read_shown}
 use Rattle.esr_core.specs.World.{Ticket}
 use Rattle.esr_desk.specs.Made.{none_fresh}
 use Rattle.esr_desk.specs.Told.{none_tells, draw_fresh, draw_tells}
+use Rattle.esr_unit.specs.Refusals.{passed_on}
 use Rattle.esr_upload.proofs.unit.work.Goals as goal
 use Rattle.esr_upload.proofs.unit.work.Goals.{In_ok-first}
 
@@ -49,7 +50,7 @@ returns-in_err-index-clause-trouble g c =
     let n = g.S.Counted.faults c.args.shard.now in
     let files = (g.S.Shard.told c.args.shard.now).files in
     let trouble = c.in_err-index.field-0.0 in
-    passed c.from_residual.result (Shown e n files s new c.args.job.ticket) trouble c.from_residual.ensures.1 (shown_any e n files s new c.args.job.ticket trouble c.in_err-index.ensures.trouble)
+    passed_on c.from_residual.result (Shown e n files s new c.args.job.ticket) trouble c.from_residual.ensures.1 (shown_any e n files s new c.args.job.ticket trouble c.in_err-index.ensures.trouble)
 
 pub returns-in_err-plans-clause-trouble : goal.returns-in_err-plans-clause-trouble
 returns-in_err-plans-clause-trouble g c =
@@ -59,7 +60,7 @@ returns-in_err-plans-clause-trouble g c =
     let n = g.S.Counted.faults c.plan_files.new.shard in
     let files = (g.S.Shard.told c.args.shard.now).files in
     let trouble = c.in_err-plans.field-0.0 in
-    passed c.from_residual-in_err-plans.result (Shown e n files s log c.args.job.ticket) trouble c.from_residual-in_err-plans.ensures.1 (read_shown e n files s log c.args.job.ticket trouble c.in_err-plans.ensures.trouble)
+    passed_on c.from_residual-in_err-plans.result (Shown e n files s log c.args.job.ticket) trouble c.from_residual-in_err-plans.ensures.1 (read_shown e n files s log c.args.job.ticket trouble c.in_err-plans.ensures.trouble)
 
 pub returns-in_err-first-clause-went : goal.returns-in_err-first-clause-went
 returns-in_err-first-clause-went g c =
@@ -69,7 +70,8 @@ returns-in_err-first-clause-went g c =
     let new = g.Q.Desk.seen c.draw.new.self in
     let n = c.count_new.result + 1 in
     if_err c.from_residual-in_err-first.result
-    (went_on s (g.Q.Desk.seen c.args.desk.now) mid new who c.base_of.ensures.went (went_same s mid new who (outcome_grew_by s mid new who (DrawStep n) (λ (first : Id). DrawnFrom first.number) c.draw.result c.draw.ensures.step) c.in_err-first.ensures.kept))
+    (went_on s (g.Q.Desk.seen c.args.desk.now) mid new who c.base_of.ensures.went
+    (went_same s mid new who (outcome_grew_by s mid new who (DrawStep n) (λ (first : Id). DrawnFrom first.number) c.draw.result c.draw.ensures.step) c.in_err-first.ensures.kept))
 
 pub returns-in_err-first-clause-grew : goal.returns-in_err-first-clause-grew
 returns-in_err-first-clause-grew g c =
@@ -92,11 +94,12 @@ returns-in_err-first-clause-trouble g c =
     let n = g.S.Counted.faults c.plan_files.new.shard in
     let files = (g.S.Shard.told c.args.shard.now).files in
     let work = ap (λ (t : Ticket). t.work) (c.in_err-first.ensures.kept ∙ c.in_ok-index.ensures.based.has_base.is) ∙ c.requires.unit.at.work in
-    passed c.from_residual-in_err-first.result (Shown e n files s new who) (Step refusal) c.from_residual-in_err-first.ensures.1
+    passed_on c.from_residual-in_err-first.result (Shown e n files s new who) (Step refusal) c.from_residual-in_err-first.ensures.1
     (step_shown e n files s mid new who at.index.number at.number work (DrawStep (c.count_new.result + 1)) refusal c.refusals_are_of_their_steps.ensures tt (λ swap. swap) c.in_err-first.ensures.step)
 
 pub returns-clause-grew : goal.returns-clause-grew
-returns-clause-grew g c = grew_by_on g.Q.Desk.start c.args.job.ticket (g.Q.Desk.seen c.args.desk.now) (g.Q.Desk.seen c.draw.new.self) (g.Q.Desk.seen c.store.new.desk) (drawn_went g (goal.at.returns-clause-grew g c).In_ok-first).grew c.store.ensures.grew
+returns-clause-grew g c =
+    grew_by_on g.Q.Desk.start c.args.job.ticket (g.Q.Desk.seen c.args.desk.now) (g.Q.Desk.seen c.draw.new.self) (g.Q.Desk.seen c.store.new.desk) (drawn_went g (goal.at.returns-clause-grew g c).In_ok-first).grew c.store.ensures.grew
 
 pub returns-clause-steady : goal.returns-clause-steady
 returns-clause-steady g c =
@@ -145,7 +148,8 @@ pub store-requires-clause-tells : goal.store-requires-clause-tells
 store-requires-clause-tells g c κs within =
     let n = c.count_new.result + 1 in
     let first = c.in_ok-first.first.number in
-    draw_tells g.Q.Desk.start (g.Q.Desk.seen c.base_of.new.desk) (g.Q.Desk.seen c.draw.new.self) c.args.job.ticket first n (DrawnFrom first) c.requires.mine.some c.in_ok-index.ensures.tells c.in_ok-first.ensures.step c.in_ok-first.ensures.own (λ none. omega (arith, none))
+    draw_tells g.Q.Desk.start (g.Q.Desk.seen c.base_of.new.desk) (g.Q.Desk.seen c.draw.new.self) c.args.job.ticket first n
+    (DrawnFrom first) c.requires.mine.some c.in_ok-index.ensures.tells c.in_ok-first.ensures.step c.in_ok-first.ensures.own (λ none. omega (arith, none))
 
 -- ---- what it leaves of the shard and of the calls
 
@@ -169,7 +173,8 @@ store-requires-clause-fetched g c κs within =
 
 pub returns-clause-same : goal.returns-clause-same
 returns-clause-same g c =
-    same_on (g.S.Shard.told c.args.shard.now) (g.S.Shard.told c.plan_files.new.shard) (g.S.Shard.told c.store.new.shard) c.plan_files.ensures.same (same_read (g.S.Shard.told c.plan_files.new.shard) (g.S.Shard.told c.store.new.shard) c.store.ensures.kept)
+    same_on (g.S.Shard.told c.args.shard.now) (g.S.Shard.told c.plan_files.new.shard) (g.S.Shard.told c.store.new.shard) c.plan_files.ensures.same
+    (same_read (g.S.Shard.told c.plan_files.new.shard) (g.S.Shard.told c.store.new.shard) c.store.ensures.kept)
 
 pub returns-clause-trouble : goal.returns-clause-trouble
 returns-clause-trouble g c =

@@ -5,10 +5,11 @@ use Rattle.esr_formats.specs.Names.{name_of}
 use Rattle.esr_desk.specs.declared.hand.Hand.TheVariants.{Verify}
 use Rattle.esr_desk.specs.Evidence.{evidence}
 use Rattle.esr_unit.specs.Shown.{Shown}
+use Rattle.esr_unit.specs.Refusals.{passed_on}
 use Rattle.esr_verify.specs.Went.{Kept}
 use Rattle.esr_verify.specs.Done.{Fetched}
 use Rattle.esr_verify.proofs.Going.{kept_asked}
-use Rattle.esr_verify.proofs.Refusing.{passed, fetch_shown}
+use Rattle.esr_verify.proofs.Refusing.{fetch_shown}
 use Rattle.esr_verify.proofs.Doing.{can_fetch}
 use Rattle.esr_verify.proofs.Judging.{fetched_drawn, left_drawn, absent_so, fetched, judged}
 use Rattle.esr_verify.proofs.read.read_test.Goals.{In_ok-bytes, In-Some}
@@ -33,7 +34,7 @@ returns-in_err-bytes-clause-trouble g c =
     let new = g.Q.Desk.seen c.fetch_whole.new.desk in
     let e = evidence g.Q.Stage.Counted.faults g.Q.Fetch.Counted.faults g.Q.Shard.Counted.faults g.Q.Target.Counted.faults g.Q.Shard.Shard.told g.Q.Target.Target.told in
     let failed = c.in_err-bytes in
-    passed c.from_residual.result (Shown Verify e ⊥ s new 0) failed.field-0.0 c.from_residual.ensures.1
+    passed_on c.from_residual.result (Shown Verify e ⊥ s new 0) failed.field-0.0 c.from_residual.ensures.1
     (fetch_shown e s c.laws.ensures.refuses old new c.args.id.number (name_of c.args.name) failed.field-0.0 c.requires.alone c.requires.drew failed.ensures.trouble (left_drawn s old new (name_of c.args.name) failed.ensures.left))
 
 pub returns-in_err-bytes-clause-kept : goal.returns-in_err-bytes-clause-kept
@@ -61,12 +62,14 @@ bytes_fetched g c =
 pub returns-in-Some-clause-read : goal.returns-in-Some-clause-read
 returns-in-Some-clause-read g c =
     on_ok_weaker c.judge.result
-    (λ same. subst (λ (b : Bytes). Fetched g.Q.Desk.start (g.Q.Desk.seen c.args.desk.now) (g.Q.Desk.seen c.fetch_whole.new.desk) (name_of c.args.name) b) (sym c.as_slice.ensures ∙ same) (bytes_fetched g (goal.at.returns-in-Some-clause-read g c).In-Some)) c.judge.ensures.same
+    (λ same. subst (λ (b : Bytes). Fetched g.Q.Desk.start (g.Q.Desk.seen c.args.desk.now) (g.Q.Desk.seen c.fetch_whole.new.desk) (name_of c.args.name) b)
+    (sym c.as_slice.ensures ∙ same) (bytes_fetched g (goal.at.returns-in-Some-clause-read g c).In-Some)) c.judge.ensures.same
 
 pub returns-in-Some-clause-trouble : goal.returns-in-Some-clause-trouble
 returns-in-Some-clause-trouble g c =
     judged (evidence g.Q.Stage.Counted.faults g.Q.Fetch.Counted.faults g.Q.Shard.Counted.faults g.Q.Target.Counted.faults g.Q.Shard.Shard.told g.Q.Target.Target.told) g.Q.Desk.start (g.Q.Desk.seen c.args.desk.now)
-    (g.Q.Desk.seen c.fetch_whole.new.desk) c.args.id.number c.args.name c.in-Some.bytes (fetch_kept g (goal.at.returns-in-Some-clause-trouble g c).In_ok-bytes).drew c.requires.committed (bytes_fetched g (goal.at.returns-in-Some-clause-trouble g c).In-Some) c.as_slice.result.now c.judge.result
+    (g.Q.Desk.seen c.fetch_whole.new.desk) c.args.id.number c.args.name c.in-Some.bytes (fetch_kept g (goal.at.returns-in-Some-clause-trouble g c).In_ok-bytes).drew c.requires.committed
+    (bytes_fetched g (goal.at.returns-in-Some-clause-trouble g c).In-Some) c.as_slice.result.now c.judge.result
     c.as_slice.ensures c.judge.ensures.other
 
 pub returns-in-Some-clause-kept : goal.returns-in-Some-clause-kept

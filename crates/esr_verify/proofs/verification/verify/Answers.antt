@@ -158,7 +158,8 @@ returns-in-Err-run-clause-asked g c =
     let last = g.Q.Desk.seen c.run.new.desk in
     let new = g.Q.Desk.seen c.give_up-in-Err-run.new.desk in
     let e = evidence g.Q.Stage.Counted.faults g.Q.Fetch.Counted.faults g.Q.Shard.Counted.faults g.Q.Target.Counted.faults g.Q.Shard.Shard.told g.Q.Target.Target.told in
-    asks_run (Unit {0}) e s old last new c.ending_of.result c.give_up-in-Err-run.result c.requires.alone (steps_begun s old mid last (DrawnFrom c.in-Ok.id.number) c.requires.alone c.in-Ok.ensures.step c.run.ensures.grew) c.give_up-in-Err-run.ensures.end
+    asks_run (Unit {0}) e s old last new c.ending_of.result c.give_up-in-Err-run.result c.requires.alone
+    (steps_begun s old mid last (DrawnFrom c.in-Ok.id.number) c.requires.alone c.in-Ok.ensures.step c.run.ensures.grew) c.give_up-in-Err-run.ensures.end
     c.give_up-in-Err-run.ensures.report
 
 pub returns-in-Err-run-clause-unverified : goal.returns-in-Err-run-clause-unverified

@@ -10,9 +10,11 @@ use Rattle.esr_desk.specs.declared.hand.Hand.TheVariants.{Verify}
 use Rattle.esr_desk.specs.Evidence.{evidence}
 use Rattle.esr_unit.specs.declared.trouble.Trouble.TheVariants.{Step}
 use Rattle.esr_unit.specs.Shown.{Shown}
+use Rattle.esr_unit.specs.Refusals.{passed_on}
+use Rattle.esr_unit.specs.Objects.{never_err, on_ok, is_faulty}
 use Rattle.esr_verify.specs.Went.{Kept}
 use Rattle.esr_verify.proofs.Going.{kept_by, kept_on, drawn_same}
-use Rattle.esr_verify.proofs.Refusing.{passed, step_refused, is_faulty, never_err, on_ok}
+use Rattle.esr_verify.proofs.Refusing.{step_refused}
 use Rattle.esr_verify.proofs.Making.{client_fresh}
 use Rattle.esr_verify.proofs.Doing.{is_own, can_commit, committed_drawn, held_text, holds_text, wrote_one}
 use Rattle.esr_verify.proofs.write.write_test.Goals.{After-begin_test}
@@ -42,8 +44,10 @@ returns-in_err-named-clause-trouble g c =
     let old = g.Q.Desk.seen c.args.desk.now in
     let new = g.Q.Desk.seen c.begin_test.new.self in
     let refusal = c.in_err-named.field-0.0 in
-    passed c.from_residual.result (Shown Verify (evidence g.Q.Stage.Counted.faults g.Q.Fetch.Counted.faults g.Q.Shard.Counted.faults g.Q.Target.Counted.faults g.Q.Shard.Shard.told g.Q.Target.Target.told) ⊥ s new 0) (Step refusal) c.from_residual.ensures.1
-    (step_refused (evidence g.Q.Stage.Counted.faults g.Q.Fetch.Counted.faults g.Q.Shard.Counted.faults g.Q.Target.Counted.faults g.Q.Shard.Shard.told g.Q.Target.Target.told) s c.laws.ensures.refuses old new c.args.id.number (BeginTest (name_of c.args.name)) refusal (λ r how. how) c.requires.alone c.requires.drew c.in_err-named.ensures.step (drawn_same (caller_of s old) (caller_of s new) c.begin_test.ensures.own))
+    passed_on c.from_residual.result (Shown Verify (evidence g.Q.Stage.Counted.faults g.Q.Fetch.Counted.faults g.Q.Shard.Counted.faults g.Q.Target.Counted.faults g.Q.Shard.Shard.told g.Q.Target.Target.told) ⊥ s new 0)
+    (Step refusal) c.from_residual.ensures.1
+    (step_refused (evidence g.Q.Stage.Counted.faults g.Q.Fetch.Counted.faults g.Q.Shard.Counted.faults g.Q.Target.Counted.faults g.Q.Shard.Shard.told g.Q.Target.Target.told) s c.laws.ensures.refuses old new c.args.id.number
+    (BeginTest (name_of c.args.name)) refusal (λ r how. how) c.requires.alone c.requires.drew c.in_err-named.ensures.step (drawn_same (caller_of s old) (caller_of s new) c.begin_test.ensures.own))
 
 pub returns-in_err-named-clause-kept : goal.returns-in_err-named-clause-kept
 returns-in_err-named-clause-kept g c = begun g (goal.at.returns-in_err-named-clause-kept g c).After-begin_test
@@ -85,8 +89,11 @@ returns-in_err-commit_test-clause-trouble g c =
     let mid = g.Q.Desk.seen c.begin_test.new.self in
     let new = g.Q.Desk.seen c.commit_test.new.self in
     let refusal = c.in_err-commit_test.field-0.0 in
-    passed c.from_residual-in_err-commit_test.result (Shown Verify (evidence g.Q.Stage.Counted.faults g.Q.Fetch.Counted.faults g.Q.Shard.Counted.faults g.Q.Target.Counted.faults g.Q.Shard.Shard.told g.Q.Target.Target.told) ⊥ s new 0) (Step refusal) c.from_residual-in_err-commit_test.ensures.1
-    (step_refused (evidence g.Q.Stage.Counted.faults g.Q.Fetch.Counted.faults g.Q.Shard.Counted.faults g.Q.Target.Counted.faults g.Q.Shard.Shard.told g.Q.Target.Target.told) s c.laws.ensures.refuses mid new c.args.id.number (CommitTest (name_of c.in_ok-named.named.name)) refusal (λ r how. how) c.requires.alone (begun g (goal.at.returns-in_err-commit_test-clause-trouble g c).After-begin_test).drew c.in_err-commit_test.ensures.step (drawn_same (caller_of s mid) (caller_of s new) c.in_err-commit_test.ensures.kept))
+    passed_on c.from_residual-in_err-commit_test.result (Shown Verify (evidence g.Q.Stage.Counted.faults g.Q.Fetch.Counted.faults g.Q.Shard.Counted.faults g.Q.Target.Counted.faults g.Q.Shard.Shard.told g.Q.Target.Target.told) ⊥ s new 0)
+    (Step refusal) c.from_residual-in_err-commit_test.ensures.1
+    (step_refused (evidence g.Q.Stage.Counted.faults g.Q.Fetch.Counted.faults g.Q.Shard.Counted.faults g.Q.Target.Counted.faults g.Q.Shard.Shard.told g.Q.Target.Target.told)
+    s c.laws.ensures.refuses mid new c.args.id.number (CommitTest (name_of c.in_ok-named.named.name)) refusal (λ r how. how) c.requires.alone
+    (begun g (goal.at.returns-in_err-commit_test-clause-trouble g c).After-begin_test).drew c.in_err-commit_test.ensures.step (drawn_same (caller_of s mid) (caller_of s new) c.in_err-commit_test.ensures.kept))
 
 pub returns-in_err-commit_test-clause-kept : goal.returns-in_err-commit_test-clause-kept
 returns-in_err-commit_test-clause-kept g c =
@@ -94,13 +101,15 @@ returns-in_err-commit_test-clause-kept g c =
     let mid = g.Q.Desk.seen c.begin_test.new.self in
     let new = g.Q.Desk.seen c.commit_test.new.self in
     kept_then g (goal.at.returns-in_err-commit_test-clause-kept g c).After-begin_test new
-    (kept_by c.laws.ensures.deposes s mid new c.args.id.number (CommitTest (name_of c.in_ok-named.named.name)) (λ x. WasDone) c.commit_test.result c.requires.alone tt (λ e. cc) c.commit_test.ensures.step (begun g (goal.at.returns-in_err-commit_test-clause-kept g c).After-begin_test).drew
+    (kept_by c.laws.ensures.deposes s mid new c.args.id.number (CommitTest (name_of c.in_ok-named.named.name)) (λ x. WasDone) c.commit_test.result c.requires.alone tt
+    (λ e. cc) c.commit_test.ensures.step (begun g (goal.at.returns-in_err-commit_test-clause-kept g c).After-begin_test).drew
     (drawn_same (caller_of s mid) (caller_of s new) c.in_err-commit_test.ensures.kept))
 
 pub returns-clause-wrote : goal.returns-clause-wrote
 returns-clause-wrote g c =
     let s = g.Q.Desk.start in
-    wrote_one s (g.Q.Desk.seen c.args.desk.now) (g.Q.Desk.seen c.begin_test.new.self) (g.Q.Desk.seen c.commit_test.new.self) (name_of c.args.name) (name_of c.in_ok-named.named.name) (g.Q.Stage.Stage.contents c.write.new.self) (id_text c.args.id.number) c.requires.alone
+    wrote_one s (g.Q.Desk.seen c.args.desk.now) (g.Q.Desk.seen c.begin_test.new.self) (g.Q.Desk.seen c.commit_test.new.self) (name_of c.args.name)
+    (name_of c.in_ok-named.named.name) (g.Q.Stage.Stage.contents c.write.new.self) (id_text c.args.id.number) c.requires.alone
     (ap name_of c.in_ok-named.ensures.name)
     (held_text s c.args.id.number (g.Q.Stage.Stage.contents c.in_ok-named.named.stage) (g.Q.Stage.Stage.contents c.write.new.self) c.id_text-text.result c.id_text-text.ensures.text c.in_ok-named.ensures.contents
     (on_ok c.write.result _ (sym c.is_err.ensures.value ∙ c.if-is_err.false) c.write.ensures.written))
@@ -112,5 +121,6 @@ returns-clause-kept g c =
     let mid = g.Q.Desk.seen c.begin_test.new.self in
     let new = g.Q.Desk.seen c.commit_test.new.self in
     kept_then g (goal.at.returns-clause-kept g c).After-begin_test new
-    (kept_by c.laws.ensures.deposes s mid new c.args.id.number (CommitTest (name_of c.in_ok-named.named.name)) (λ x. WasDone) c.commit_test.result c.requires.alone tt (λ e. cc) c.commit_test.ensures.step (begun g (goal.at.returns-clause-kept g c).After-begin_test).drew
+    (kept_by c.laws.ensures.deposes s mid new c.args.id.number (CommitTest (name_of c.in_ok-named.named.name))
+    (λ x. WasDone) c.commit_test.result c.requires.alone tt (λ e. cc) c.commit_test.ensures.step (begun g (goal.at.returns-clause-kept g c).After-begin_test).drew
     (committed_drawn (caller_of s mid) (caller_of s new) (name_of c.in_ok-named.named.name) (g.Q.Stage.Stage.contents c.write.new.self) c.in_ok-commit_test.ensures.own))

@@ -1,7 +1,6 @@
 use Rattle.std.specs.List.{AllByRecursion}
 use Rattle.esr_names.specs.Layout.{IsName}
-use Rattle.esr_root.specs.Lists.{pushed}
-use Rattle.esr_dooming.proofs.Laid.{all_push}
+use Rattle.esr_root.specs.Lists.{pushed, all_push}
 use Rattle.esr_dooming.proofs.names.DoomedNames.push.Goals as goal
 
 pub invariant_of-self : goal.invariant_of-self

@@ -39,7 +39,8 @@ pub invariant_of-end : goal.invariant_of-end
 invariant_of-end g c =
     let t = turned_at c.self.inside.seat c.self.view_is c.in_ok-lent.ensures.turned in
     end_of c.in_ok-lent.ensures.lent c.in_ok-lent.ensures.base t.alone
-    (step_came t c.args.ticket c.requires.mine (g.Q.Desk.seen c.commit-answer.new.self) (CommitStep (name_of c.args.name)) commit_reply c.commit-answer.result c.is_told-is_told.result commit_gives c.is_told-is_told.ensures c.commit-answer.ensures.step)
+    (step_came t c.args.ticket c.requires.mine (g.Q.Desk.seen c.commit-answer.new.self)
+    (CommitStep (name_of c.args.name)) commit_reply c.commit-answer.result c.is_told-is_told.result commit_gives c.is_told-is_told.ensures c.commit-answer.ensures.step)
 
 pub invariant_of-self-2 : goal.invariant_of-self-2
 invariant_of-self-2 g c = c.end_turn.ensures.full

@@ -20,7 +20,8 @@ pub invariant_of-end : goal.invariant_of-end
 invariant_of-end g c =
     let t = turned_at c.self.inside.seat c.self.view_is c.in_ok-lent.ensures.turned in
     end_of c.in_ok-lent.ensures.lent c.in_ok-lent.ensures.base t.alone
-    (came g.Q.Desk.start g.B.Since.before c.args.self.now.pass c.in_ok-lent.lent.turn (g.Q.Desk.seen c.in_ok-lent.lent.desk) t (g.Q.Desk.seen c.elect-answer.new.self) 0 ElectStep (λ term. ElectedTerm term) c.elect-answer.result c.is_told-is_told.result (no_ticket g.Q.Desk.start g.B.Since.before c.args.self.now.pass c.in_ok-lent.lent.turn (g.Q.Desk.seen c.in_ok-lent.lent.desk) t) (λ term. refl) c.is_told-is_told.ensures c.elect-answer.ensures.step)
+    (came g.Q.Desk.start g.B.Since.before c.args.self.now.pass c.in_ok-lent.lent.turn (g.Q.Desk.seen c.in_ok-lent.lent.desk) t (g.Q.Desk.seen c.elect-answer.new.self) 0 ElectStep (λ term. ElectedTerm term) c.elect-answer.result
+    c.is_told-is_told.result (no_ticket g.Q.Desk.start g.B.Since.before c.args.self.now.pass c.in_ok-lent.lent.turn (g.Q.Desk.seen c.in_ok-lent.lent.desk) t) (λ term. refl) c.is_told-is_told.ensures c.elect-answer.ensures.step)
 
 pub invariant_of-self-2 : goal.invariant_of-self-2
 invariant_of-self-2 g c = c.end_turn.ensures.full

@@ -35,7 +35,8 @@ pub invariant_of-end : goal.invariant_of-end
 invariant_of-end g c =
     let t = turned_at c.self.inside.seat c.self.view_is c.in-Ok.ensures.turned in
     end_of c.in-Ok.ensures.lent c.in-Ok.ensures.base t.alone
-    (step_came t c.args.done.ticket c.requires.mine (g.Q.Desk.seen c.end_restore-answer.new.self) (ReadStep (RestoredShard c.args.done.files c.args.done.bytes)) (λ _. HasEnded) (refused_of c.end_restore-answer.result) c.is_end_told-is_told.result (λ x. refl) c.is_end_told-is_told.ensures c.end_restore-answer.ensures.step)
+    (step_came t c.args.done.ticket c.requires.mine (g.Q.Desk.seen c.end_restore-answer.new.self) (ReadStep (RestoredShard c.args.done.files c.args.done.bytes))
+    (λ _. HasEnded) (refused_of c.end_restore-answer.result) c.is_end_told-is_told.result (λ x. refl) c.is_end_told-is_told.ensures c.end_restore-answer.ensures.step)
 
 pub invariant_of-self-2 : goal.invariant_of-self-2
 invariant_of-self-2 g c = c.end_turn.ensures.full

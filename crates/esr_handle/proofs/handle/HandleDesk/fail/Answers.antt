@@ -41,7 +41,9 @@ pub invariant_of-end : goal.invariant_of-end
 invariant_of-end g c =
     let t = turned_at c.self.inside.seat c.self.view_is c.in-Ok.ensures.turned in
     end_of c.in-Ok.ensures.lent c.in-Ok.ensures.base t.alone
-    (came g.Q.Desk.start g.B.Since.before c.args.self.now.pass c.in-Ok.lent.turn (g.Q.Desk.seen c.in-Ok.lent.desk) t (g.Q.Desk.seen c.fail-answer.new.self) c.args.failure.who.number (fail_step c.args.failure.who.hand (why_of c.args.failure.why)) (λ _. HasEnded) c.fail-answer.result c.is_told-is_told.result (own_hand g.Q.Desk.start g.B.Since.before c.args.self.now.pass c.in-Ok.lent.turn (g.Q.Desk.seen c.in-Ok.lent.desk) t c.args.failure.who.hand c.args.failure.who.number c.requires.mine) (λ x. refl) c.is_told-is_told.ensures c.fail-answer.ensures.step)
+    (came g.Q.Desk.start g.B.Since.before c.args.self.now.pass c.in-Ok.lent.turn (g.Q.Desk.seen c.in-Ok.lent.desk) t (g.Q.Desk.seen c.fail-answer.new.self) c.args.failure.who.number
+    (fail_step c.args.failure.who.hand (why_of c.args.failure.why)) (λ _. HasEnded) c.fail-answer.result c.is_told-is_told.result (own_hand g.Q.Desk.start g.B.Since.before c.args.self.now.pass c.in-Ok.lent.turn
+    (g.Q.Desk.seen c.in-Ok.lent.desk) t c.args.failure.who.hand c.args.failure.who.number c.requires.mine) (λ x. refl) c.is_told-is_told.ensures c.fail-answer.ensures.step)
 
 pub invariant_of-self-2 : goal.invariant_of-self-2
 invariant_of-self-2 g c = c.end_turn.ensures.full

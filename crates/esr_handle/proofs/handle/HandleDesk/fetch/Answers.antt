@@ -41,7 +41,9 @@ pub invariant_of-end : goal.invariant_of-end
 invariant_of-end g c =
     let t = turned_at c.self.inside.seat c.self.view_is c.in_ok-lent.ensures.turned in
     end_of c.in_ok-lent.ensures.lent c.in_ok-lent.ensures.base t.alone
-    (came g.Q.Desk.start g.B.Since.before c.args.self.now.pass c.in_ok-lent.lent.turn (g.Q.Desk.seen c.in_ok-lent.lent.desk) t (g.Q.Desk.seen c.fetch-answer.new.self) c.args.who.number (fetch_step c.args.who.hand (name_of c.args.name)) fetch_reply c.fetch-answer.result c.is_told-is_told.result (own_hand g.Q.Desk.start g.B.Since.before c.args.self.now.pass c.in_ok-lent.lent.turn (g.Q.Desk.seen c.in_ok-lent.lent.desk) t c.args.who.hand c.args.who.number c.requires.mine) fetch_none c.is_told-is_told.ensures c.fetch-answer.ensures.step)
+    (came g.Q.Desk.start g.B.Since.before c.args.self.now.pass c.in_ok-lent.lent.turn (g.Q.Desk.seen c.in_ok-lent.lent.desk) t (g.Q.Desk.seen c.fetch-answer.new.self) c.args.who.number (fetch_step c.args.who.hand (name_of c.args.name))
+    fetch_reply c.fetch-answer.result c.is_told-is_told.result (own_hand g.Q.Desk.start g.B.Since.before c.args.self.now.pass c.in_ok-lent.lent.turn (g.Q.Desk.seen c.in_ok-lent.lent.desk) t c.args.who.hand c.args.who.number c.requires.mine)
+    fetch_none c.is_told-is_told.ensures c.fetch-answer.ensures.step)
 
 pub invariant_of-self-2 : goal.invariant_of-self-2
 invariant_of-self-2 g c = c.end_turn.ensures.full

@@ -27,7 +27,8 @@ pub invariant_of-end : goal.invariant_of-end
 invariant_of-end g c =
     let t = turned_at c.self.inside.seat c.self.view_is c.in_ok-lent.ensures.turned in
     end_of c.in_ok-lent.ensures.lent c.in_ok-lent.ensures.base t.alone
-    (came_take g.Q.Desk.start g.B.Since.before c.args.self.now.pass c.in_ok-lent.lent.turn (g.Q.Desk.seen c.in_ok-lent.lent.desk) t c.each_ticket_is_given_once.ensures.next (g.Q.Desk.seen c.take-answer.new.self) c.take-answer.result c.is_told-is_told.result c.is_told-is_told.ensures c.take-answer.ensures.step)
+    (came_take g.Q.Desk.start g.B.Since.before c.args.self.now.pass c.in_ok-lent.lent.turn (g.Q.Desk.seen c.in_ok-lent.lent.desk) t c.each_ticket_is_given_once.ensures.next
+    (g.Q.Desk.seen c.take-answer.new.self) c.take-answer.result c.is_told-is_told.result c.is_told-is_told.ensures c.take-answer.ensures.step)
 
 pub invariant_of-self-2 : goal.invariant_of-self-2
 invariant_of-self-2 g c = c.end_turn.ensures.full

@@ -9,12 +9,14 @@ use Rattle.esr_progress.proofs.progress.Progress.end_read.Goals as goal
 pub invariant_of-self : goal.invariant_of-self
 invariant_of-self c =
     let found = sym (c.restore_place.ensures ∙ ap (position (λ (e : ℕ × RestorePlan). eqb e.0 c.args.number)) c.deref.ensures.value) ∙ c.in-Some.is in
-    restore_put_keeps (restore_over c.args.ticket) c.self.inside.ops.items c.self.inside.deletes.items c.self.inside.completed.items c.self.inside.tickets c.self.inside.next_op c.args.number c.self.inside.restores.items c.in-Some.at c.index_mut.result.now c.end.new.self found c.index_mut.ensures.value c.end.ensures c.self.invariant
+    restore_put_keeps (restore_over c.args.ticket) c.self.inside.ops.items c.self.inside.deletes.items c.self.inside.completed.items c.self.inside.tickets c.self.inside.next_op
+    c.args.number c.self.inside.restores.items c.in-Some.at c.index_mut.result.now c.end.new.self found c.index_mut.ensures.value c.end.ensures c.self.invariant
 
 pub returns-in-Some : goal.returns-in-Some
 returns-in-Some c =
     let found = sym (c.restore_place.ensures ∙ ap (position (λ (e : ℕ × RestorePlan). eqb e.0 c.args.number)) c.deref.ensures.value) ∙ c.in-Some.is in
-    restore_put (restore_over c.args.ticket) c.self.inside.ops.items c.self.inside.deletes.items c.self.inside.completed.items c.self.inside.tickets c.self.inside.next_op c.args.number c.self.inside.restores.items c.in-Some.at c.index_mut.result.now c.end.new.self found c.index_mut.ensures.value c.end.ensures
+    restore_put (restore_over c.args.ticket) c.self.inside.ops.items c.self.inside.deletes.items c.self.inside.completed.items c.self.inside.tickets
+    c.self.inside.next_op c.args.number c.self.inside.restores.items c.in-Some.at c.index_mut.result.now c.end.new.self found c.index_mut.ensures.value c.end.ensures
     ∙ ap (λ (p : Plan). restore_changed (restore_over c.args.ticket) p c.args.number (fin.get p.restores c.args.number)) c.self.view_is
 
 pub returns-in_default : goal.returns-in_default

@@ -10,12 +10,14 @@ use Rattle.esr_progress.proofs.progress.Progress.fail_op.Goals as goal
 pub invariant_of-self : goal.invariant_of-self
 invariant_of-self c =
     let found = sym (c.place.ensures ∙ ap (position (λ (e : ℕ × Op). eqb e.0 c.args.number)) c.deref.ensures.value) ∙ c.in-Some.is in
-    op_put_keeps (op_failed c.args.ticket) c.self.inside.deletes.items c.self.inside.completed.items c.self.inside.tickets c.self.inside.next_op c.self.inside.restores.items c.args.number c.self.inside.ops.items c.in-Some.at c.index_mut.result.now c.fail.new.self found c.index_mut.ensures.value c.fail.ensures c.self.invariant
+    op_put_keeps (op_failed c.args.ticket) c.self.inside.deletes.items c.self.inside.completed.items c.self.inside.tickets c.self.inside.next_op c.self.inside.restores.items
+    c.args.number c.self.inside.ops.items c.in-Some.at c.index_mut.result.now c.fail.new.self found c.index_mut.ensures.value c.fail.ensures c.self.invariant
 
 pub returns-in-Some : goal.returns-in-Some
 returns-in-Some c =
     let found = sym (c.place.ensures ∙ ap (position (λ (e : ℕ × Op). eqb e.0 c.args.number)) c.deref.ensures.value) ∙ c.in-Some.is in
-    op_put (op_failed c.args.ticket) c.self.inside.deletes.items c.self.inside.completed.items c.self.inside.tickets c.self.inside.next_op c.self.inside.restores.items c.args.number c.self.inside.ops.items c.in-Some.at c.index_mut.result.now c.fail.new.self found c.index_mut.ensures.value c.fail.ensures
+    op_put (op_failed c.args.ticket) c.self.inside.deletes.items c.self.inside.completed.items c.self.inside.tickets c.self.inside.next_op c.self.inside.restores.items
+    c.args.number c.self.inside.ops.items c.in-Some.at c.index_mut.result.now c.fail.new.self found c.index_mut.ensures.value c.fail.ensures
     ∙ ap (λ (p : Plan). op_changed (op_failed c.args.ticket) p c.args.number (fin.get p.ops c.args.number)) c.self.view_is
 
 pub returns-in_default : goal.returns-in_default

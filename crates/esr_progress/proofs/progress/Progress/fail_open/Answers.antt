@@ -10,12 +10,14 @@ use Rattle.esr_progress.proofs.progress.Progress.fail_open.Goals as goal
 pub invariant_of-self : goal.invariant_of-self
 invariant_of-self c =
     let found = sym (c.delete_place.ensures ∙ ap (position (λ (e : ℕ × Deletion). eqb e.0 c.args.number)) c.deref.ensures.value) ∙ c.in-Some.is in
-    delete_put_keeps delete_failing c.self.inside.ops.items c.self.inside.completed.items c.self.inside.tickets c.self.inside.next_op c.self.inside.restores.items c.args.number c.self.inside.deletes.items c.in-Some.at c.index_mut.result.now c.fail.new.self found c.index_mut.ensures.value c.fail.ensures c.self.invariant
+    delete_put_keeps delete_failing c.self.inside.ops.items c.self.inside.completed.items c.self.inside.tickets c.self.inside.next_op c.self.inside.restores.items
+    c.args.number c.self.inside.deletes.items c.in-Some.at c.index_mut.result.now c.fail.new.self found c.index_mut.ensures.value c.fail.ensures c.self.invariant
 
 pub returns-in-Some : goal.returns-in-Some
 returns-in-Some c =
     let found = sym (c.delete_place.ensures ∙ ap (position (λ (e : ℕ × Deletion). eqb e.0 c.args.number)) c.deref.ensures.value) ∙ c.in-Some.is in
-    delete_put delete_failing c.self.inside.ops.items c.self.inside.completed.items c.self.inside.tickets c.self.inside.next_op c.self.inside.restores.items c.args.number c.self.inside.deletes.items c.in-Some.at c.index_mut.result.now c.fail.new.self found c.index_mut.ensures.value c.fail.ensures
+    delete_put delete_failing c.self.inside.ops.items c.self.inside.completed.items c.self.inside.tickets c.self.inside.next_op c.self.inside.restores.items
+    c.args.number c.self.inside.deletes.items c.in-Some.at c.index_mut.result.now c.fail.new.self found c.index_mut.ensures.value c.fail.ensures
     ∙ ap (λ (p : Plan). delete_changed delete_failing p c.args.number (fin.get p.deletes c.args.number)) c.self.view_is
 
 pub returns-in_default : goal.returns-in_default

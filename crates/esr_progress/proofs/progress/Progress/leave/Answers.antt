@@ -24,7 +24,8 @@ returns-in_default c =
 pub returns-then-waits : goal.returns-then-waits
 returns-then-waits c =
     let found = sym (c.restore_place.ensures ∙ ap (position (λ (e : ℕ × RestorePlan). eqb e.0 c.args.number)) c.deref.ensures.value) ∙ c.in-Some.is in
-    sym c.self.view_is ∙ restore_stays c.self.inside.ops.items c.self.inside.deletes.items c.self.inside.completed.items c.self.inside.tickets c.self.inside.next_op c.self.inside.restores.items c.args.number c.in-Some.at c.index.result.now found c.index.ensures
+    sym c.self.view_is
+    ∙ restore_stays c.self.inside.ops.items c.self.inside.deletes.items c.self.inside.completed.items c.self.inside.tickets c.self.inside.next_op c.self.inside.restores.items c.args.number c.in-Some.at c.index.result.now found c.index.ensures
     (sym c.waits.ensures ∙ c.if-waits.true)
     ∙ ap (λ (p : Plan). restore_kept p c.args.number (fin.get p.restores c.args.number)) c.self.view_is
 

@@ -16,7 +16,8 @@ pub returns-in_default : goal.returns-in_default
 returns-in_default c w is =
     nothing c.self.inside.ops.items c.self.inside.deletes.items c.self.inside.completed.items c.self.inside.tickets c.self.inside.next_op c.self.inside.restores.items c.args.self.now c.self.view_is c.self.invariant
     (root_of c.args.root.now) (count_of c.args.safe) c.args.term w is
-    (none_in c.self.inside.ops.items c.deref.result.now c.deref.ensures.value c.self.inside.deletes.items c.deref-2.result.now c.deref-2.ensures.value c.self.inside.completed.items c.deref-3.result.now c.deref-3.ensures.value c.self.inside.tickets c.self.inside.tickets refl c.self.inside.restores.items c.deref-4.result.now c.deref-4.ensures.value c.args.term c.in_default.ensures)
+    (none_in c.self.inside.ops.items c.deref.result.now c.deref.ensures.value c.self.inside.deletes.items c.deref-2.result.now c.deref-2.ensures.value c.self.inside.completed.items c.deref-3.result.now
+    c.deref-3.ensures.value c.self.inside.tickets c.self.inside.tickets refl c.self.inside.restores.items c.deref-4.result.now c.deref-4.ensures.value c.args.term c.in_default.ensures)
 
 pub index-op-requires : goal.index-op-requires
 index-op-requires c =
@@ -26,11 +27,13 @@ index-op-requires c =
 
 pub seat_kind-seat-requires : goal.seat_kind-seat-requires
 seat_kind-seat-requires c =
-    possible_there c.self.inside.ops.items c.deref.result.now c.deref.ensures.value c.deref-2.result.now c.deref-3.result.now c.self.inside.tickets c.deref-4.result.now c.args.term c.in-Some.at c.in-Some.kind c.in-Some.ensures c.index-op.result.now c.index-op.ensures
+    possible_there c.self.inside.ops.items c.deref.result.now c.deref.ensures.value c.deref-2.result.now c.deref-3.result.now
+    c.self.inside.tickets c.deref-4.result.now c.args.term c.in-Some.at c.in-Some.kind c.in-Some.ensures c.index-op.result.now c.index-op.ensures
 
 pub work_of-requires : goal.work_of-requires
 work_of-requires c =
-    possible_there c.self.inside.ops.items c.deref.result.now c.deref.ensures.value c.deref-2.result.now c.deref-3.result.now c.self.inside.tickets c.deref-4.result.now c.args.term c.in-Some.at c.in-Some.kind c.in-Some.ensures c.index-op.result.now c.index-op.ensures
+    possible_there c.self.inside.ops.items c.deref.result.now c.deref.ensures.value c.deref-2.result.now c.deref-3.result.now
+    c.self.inside.tickets c.deref-4.result.now c.args.term c.in-Some.at c.in-Some.kind c.in-Some.ensures c.index-op.result.now c.index-op.ensures
 
 pub given_ops-requires : goal.given_ops-requires
 given_ops-requires c =
@@ -40,20 +43,25 @@ given_ops-requires c =
 
 pub with_seat-requires-clause-numbers : goal.with_seat-requires-clause-numbers
 with_seat-requires-clause-numbers c =
-    same_numbers c.self.inside.ops.items c.deref-6.result.now c.deref-6.ensures.value c.self.inside.deletes.items c.self.inside.completed.items c.self.inside.tickets c.self.inside.next_op c.self.inside.restores.items c.args.self.now c.self.view_is c.self.invariant
+    same_numbers c.self.inside.ops.items c.deref-6.result.now c.deref-6.ensures.value c.self.inside.deletes.items c.self.inside.completed.items
+    c.self.inside.tickets c.self.inside.next_op c.self.inside.restores.items c.args.self.now c.self.view_is c.self.invariant
     c.in-Some.at c.index-op.result.now
-    (read_there c.self.inside.ops.items c.deref.result.now c.deref.ensures.value c.deref-2.result.now c.deref-3.result.now c.self.inside.tickets c.deref-4.result.now c.args.term c.in-Some.at c.in-Some.kind c.in-Some.ensures c.index-op.result.now c.index-op.ensures)
+    (read_there c.self.inside.ops.items c.deref.result.now c.deref.ensures.value c.deref-2.result.now c.deref-3.result.now c.self.inside.tickets
+    c.deref-4.result.now c.args.term c.in-Some.at c.in-Some.kind c.in-Some.ensures c.index-op.result.now c.index-op.ensures)
     c.seat_kind-seat.result c.next-ticket.result c.in_ok-ops.ops.items c.in_ok-ops.ensures
 
 pub returns : goal.returns
 returns c w is =
     let copy : Copied = record { safe = to_z w64 (of_z w64 c.args.safe); root = c.in_ok-try_clone.field-0; base = c.base_of.result } in
     let base = subst (λ (es : List (ℕ × Op)). IsBaseFor (root_of c.args.root.now) es c.seat_kind-seat.result c.base_of.result) c.deref-5.ensures.value c.base_of.ensures in
-    let given_is = subst (λ (es : List (ℕ × Op)). IfSome (slice_get es c.in-Some.at) (λ (x : ℕ × Op). c.in_ok-ops.ops.items ≡ set es c.in-Some.at (given_entry c.seat_kind-seat.result c.next-ticket.result x))) c.deref-6.ensures.value c.in_ok-ops.ensures in
+    let given_is = subst (λ (es : List (ℕ × Op)). IfSome (slice_get es c.in-Some.at) (λ (x : ℕ × Op). c.in_ok-ops.ops.items ≡ set es c.in-Some.at (given_entry c.seat_kind-seat.result c.next-ticket.result x)))
+    c.deref-6.ensures.value c.in_ok-ops.ensures in
     next_is c.self.inside.ops.items c.self.inside.deletes.items c.self.inside.completed.items c.self.inside.tickets c.self.inside.next_op c.self.inside.restores.items c.args.self.now c.self.view_is c.self.invariant
     (root_of c.args.root.now) (count_of c.args.safe) c.args.term w is c.in-Some.at c.in-Some.kind
-    (ready_in c.self.inside.ops.items c.deref.result.now c.deref.ensures.value c.self.inside.deletes.items c.deref-2.result.now c.deref-2.ensures.value c.self.inside.completed.items c.deref-3.result.now c.deref-3.ensures.value c.self.inside.tickets c.self.inside.tickets refl c.self.inside.restores.items c.deref-4.result.now c.deref-4.ensures.value c.args.term c.in-Some.at c.in-Some.kind c.in-Some.ensures)
+    (ready_in c.self.inside.ops.items c.deref.result.now c.deref.ensures.value c.self.inside.deletes.items c.deref-2.result.now c.deref-2.ensures.value c.self.inside.completed.items c.deref-3.result.now
+    c.deref-3.ensures.value c.self.inside.tickets c.self.inside.tickets refl c.self.inside.restores.items c.deref-4.result.now c.deref-4.ensures.value c.args.term c.in-Some.at c.in-Some.kind c.in-Some.ensures)
     c.index-op.result.now
-    (read_there c.self.inside.ops.items c.deref.result.now c.deref.ensures.value c.deref-2.result.now c.deref-3.result.now c.self.inside.tickets c.deref-4.result.now c.args.term c.in-Some.at c.in-Some.kind c.in-Some.ensures c.index-op.result.now c.index-op.ensures)
+    (read_there c.self.inside.ops.items c.deref.result.now c.deref.ensures.value c.deref-2.result.now c.deref-3.result.now c.self.inside.tickets
+    c.deref-4.result.now c.args.term c.in-Some.at c.in-Some.kind c.in-Some.ensures c.index-op.result.now c.index-op.ensures)
     c.rule.ensures c.next-ticket.result c.next-ticket.ensures c.number.result c.number.ensures c.in_ok-work_of.field-0 c.seat_kind-seat.result copy c.in_ok-work_of.ensures c.seat_kind-seat.ensures base
     (ap count_of (to_z-of_z w64 c.args.safe c.ranges.safe)) (ap root_of c.in_ok-try_clone.ensures) c.in_ok-ops.ops.items given_is c.in_ok-with_seat.field-0 c.in_ok-with_seat.ensures

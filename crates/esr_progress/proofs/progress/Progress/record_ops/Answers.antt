@@ -23,7 +23,8 @@ push_between-requires-clause-last c = c.loop-op.invariant.above
 
 pub push_between-requires-clause-most : goal.push_between-requires-clause-most
 push_between-requires-clause-most c =
-    number_most c.deref-op-items.result.now c.self.inside.deletes.items c.self.inside.next_op c.loop-op.op-index c.loop-op.last c.loop-op.ops c.loop-op.invariant c.op-item.result c.loop-op-test.true c.op-item.is c.number.result c.number.ensures c.self.invariant.most
+    number_most c.deref-op-items.result.now c.self.inside.deletes.items c.self.inside.next_op c.loop-op.op-index c.loop-op.last c.loop-op.ops
+    c.loop-op.invariant c.op-item.result c.loop-op-test.true c.op-item.is c.number.result c.number.ensures c.self.invariant.most
 
 pub push-requires : goal.push-requires
 push-requires c =

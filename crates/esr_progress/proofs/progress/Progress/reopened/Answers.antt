@@ -16,4 +16,5 @@ pub returns-clause-list : goal.returns-clause-list
 returns-clause-list c =
     let kept = c.in_ok-deletes.ensures.kept ∙ ap (λ (os : List RecordOp). kept_from 1 (kept_deletes (map op_of os))) c.as_slice.ensures.items in
     let next : c.len.result + 1 ≡ length c.in_ok-deletes.deletes.items + 1 = omega (arith, c.len.ensures) in
-    kept_is (kept_deletes (map op_of c.args.ops.now)) c.in_ok-deletes.deletes.items (c.len.result + 1) kept next c.new.result.items c.new.ensures.items c.new-2.result.items c.new-2.ensures.items c.new-3.result c.new-3.ensures c.new-4.result.items c.new-4.ensures.items
+    kept_is (kept_deletes (map op_of c.args.ops.now)) c.in_ok-deletes.deletes.items
+    (c.len.result + 1) kept next c.new.result.items c.new.ensures.items c.new-2.result.items c.new-2.ensures.items c.new-3.result c.new-3.ensures c.new-4.result.items c.new-4.ensures.items

@@ -36,7 +36,8 @@ given_restores-requires c =
 
 pub with_reader-requires-clause-numbers : goal.with_reader-requires-clause-numbers
 with_reader-requires-clause-numbers c =
-    restore_numbers c.self.inside.restores.items c.deref-2.result.now c.deref-2.ensures.value c.self.inside.ops.items c.self.inside.deletes.items c.self.inside.completed.items c.self.inside.tickets c.self.inside.next_op c.args.self.now c.self.view_is c.self.invariant
+    restore_numbers c.self.inside.restores.items c.deref-2.result.now c.deref-2.ensures.value c.self.inside.ops.items c.self.inside.deletes.items
+    c.self.inside.completed.items c.self.inside.tickets c.self.inside.next_op c.args.self.now c.self.view_is c.self.invariant
     c.in-Some.at c.index-restore.result.now
     (restore_there c.self.inside.restores.items c.deref.result.now c.deref.ensures.value c.in-Some.at c.in-Some.i c.in-Some.ensures c.index-restore.result.now c.index-restore.ensures)
     c.shard-shard.result c.next-ticket.result c.in_ok-restores.restores.items c.in_ok-restores.ensures
@@ -44,9 +45,12 @@ with_reader-requires-clause-numbers c =
 pub returns : goal.returns
 returns c w term is =
     let copy : Copied = record { safe = to_z w64 (of_z w64 c.args.safe); root = c.in_ok-try_clone.field-0; base = None } in
-    let given_is = subst (λ (es : List (ℕ × RestorePlan)). IfSome (slice_get es c.in-Some.at) (λ (x : ℕ × RestorePlan). c.in_ok-restores.restores.items ≡ set es c.in-Some.at (given_restore c.shard-shard.result c.next-ticket.result x))) c.deref-2.ensures.value c.in_ok-restores.ensures in
-    restore_is c.self.inside.ops.items c.self.inside.deletes.items c.self.inside.completed.items c.self.inside.tickets c.self.inside.next_op c.self.inside.restores.items c.args.self.now c.self.view_is c.self.invariant w is.plan c.in-Some.at c.in-Some.i
+    let given_is = subst (λ (es : List (ℕ × RestorePlan)). IfSome (slice_get es c.in-Some.at) (λ (x : ℕ × RestorePlan). c.in_ok-restores.restores.items ≡ set es c.in-Some.at (given_restore c.shard-shard.result c.next-ticket.result x)))
+    c.deref-2.ensures.value c.in_ok-restores.ensures in
+    restore_is c.self.inside.ops.items c.self.inside.deletes.items c.self.inside.completed.items c.self.inside.tickets
+    c.self.inside.next_op c.self.inside.restores.items c.args.self.now c.self.view_is c.self.invariant w is.plan c.in-Some.at c.in-Some.i
     (unread_in c.self.inside.restores.items c.deref.result.now c.deref.ensures.value c.in-Some.at c.in-Some.i c.in-Some.ensures) c.index-restore.result.now
     (restore_there c.self.inside.restores.items c.deref.result.now c.deref.ensures.value c.in-Some.at c.in-Some.i c.in-Some.ensures c.index-restore.result.now c.index-restore.ensures)
-    c.rule.ensures c.next-ticket.result c.next-ticket.ensures c.number.result c.number.ensures c.in_ok-work.field-0 c.shard-shard.result copy c.shard-shard.ensures c.in_ok-work.ensures (root_of c.args.root.now) (count_of c.args.safe) is.safe_is is.root_is
+    c.rule.ensures c.next-ticket.result c.next-ticket.ensures c.number.result c.number.ensures c.in_ok-work.field-0 c.shard-shard.result copy c.shard-shard.ensures c.in_ok-work.ensures
+    (root_of c.args.root.now) (count_of c.args.safe) is.safe_is is.root_is
     (ap count_of (to_z-of_z w64 c.args.safe c.ranges.safe)) (ap root_of c.in_ok-try_clone.ensures) c.in_ok-restores.restores.items given_is c.in_ok-with_reader.field-0 c.in_ok-with_reader.ensures

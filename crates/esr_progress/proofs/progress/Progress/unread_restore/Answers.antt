@@ -11,6 +11,7 @@ returns-in_default c w is =
 
 pub returns : goal.returns
 returns c w is =
-    lowest_restore c.self.inside.ops.items c.self.inside.deletes.items c.self.inside.completed.items c.self.inside.tickets c.self.inside.next_op c.self.inside.restores.items c.args.self.now c.self.view_is c.self.invariant w is c.in-Some.at c.in-Some._i
+    lowest_restore c.self.inside.ops.items c.self.inside.deletes.items c.self.inside.completed.items c.self.inside.tickets
+    c.self.inside.next_op c.self.inside.restores.items c.args.self.now c.self.view_is c.self.invariant w is c.in-Some.at c.in-Some._i
     (unread_in c.self.inside.restores.items c.deref.result.now c.deref.ensures.value c.in-Some.at c.in-Some._i c.in-Some.ensures) c.index.result.now
     (restore_there c.self.inside.restores.items c.deref.result.now c.deref.ensures.value c.in-Some.at c.in-Some._i c.in-Some.ensures c.index.result.now c.index.ensures) c.number.result c.number.ensures

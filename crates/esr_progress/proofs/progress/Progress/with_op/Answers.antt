@@ -12,5 +12,6 @@ invariant_of-new c =
 pub returns : goal.returns
 returns c =
     let next : c.new.inside.next_op ≡ c.args.self.now.next_op = ap (λ (p : Plan). p.next_op) (c.new.view_is ∙ c.in_ok-new.ensures) in
-    plan-push c.new.inside.ops.items c.new.inside.deletes.items c.new.inside.completed.items c.note_completed.new.completed.items c.new.inside.tickets c.new.inside.next_op c.new.inside.restores.items c.args.op c.push.new.self.items c.args.self.now c.new.invariant
+    plan-push c.new.inside.ops.items c.new.inside.deletes.items c.new.inside.completed.items c.note_completed.new.completed.items
+    c.new.inside.tickets c.new.inside.next_op c.new.inside.restores.items c.args.op c.push.new.self.items c.args.self.now c.new.invariant
     (c.new.view_is ∙ c.in_ok-new.ensures) (c.requires.number ∙ sym next) c.in_ok-push.ensures.items c.in_ok-note_completed.ensures

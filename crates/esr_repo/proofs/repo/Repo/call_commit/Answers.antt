@@ -1,15 +1,16 @@
-use Rattle.std.proofs.Common.{refl, Option, ap, ◌∙◌}
+use Rattle.std.proofs.Common.{refl, Option, ap, ◌∙◌, inl, inr}
 use Rattle.esr_model.specs.Image.{Image}
 use Rattle.esr_core.specs.After.{told_blob}
-use Rattle.esr_core.specs.Entry.{WasDone, WasThere, NameTaken, Refused, DepotFault, Entry}
+use Rattle.esr_core.specs.Entry.{WasDone, WasThere, NameTaken, Refused, Entry}
 use Rattle.esr_depot.specs.Changes.{Committed, CommitMay}
 use Rattle.esr_formats.specs.Names.{name_of}
 use Rattle.esr_desk.specs.Entries.{step_of}
 use Rattle.esr_desk.specs.Start.{formats_of}
-use Rattle.esr_repo.proofs.BlobCalls.{before_step, Pushed, pushed_as, wanting, commit_done, commit_found, commit_taken, commit_fault}
-use Rattle.esr_repo.proofs.Pasts.{made_whole, wanting_whole}
-use Rattle.esr_repo.proofs.Failing.{failed_so, same_faults, unfailed_faults, failed_faults}
-use Rattle.esr_repo.proofs.Calms.{calm_goes, calm_failed, calm_wanting}
+use Rattle.esr_repo.proofs.BlobCalls.{before_step, Pushed, commit_done, commit_found, commit_taken, commit_fault}
+use Rattle.esr_repo.proofs.Pasts.{made_whole}
+use Rattle.esr_repo.proofs.Failing.{unfailed_faults}
+use Rattle.esr_repo.proofs.Calms.{calm_goes}
+use Rattle.esr_repo.proofs.Errors.{error_kept, error_step}
 use Rattle.esr_repo.proofs.repo.Repo.call_commit.Goals as goal
 
 pub invariant_of-self-in-Ok-Done : goal.invariant_of-self-in-Ok-Done
@@ -18,7 +19,8 @@ invariant_of-self-in-Ok-Done g c =
     let e : Entry = record { who = c.args.who; step = step_of c.args.step; reply = WasDone } in
     let p : Pushed c.self.inside.history.items c.reserve.new.self.items c.push_reserved.new.self.items e = record { reserved = c.reserve.ensures.items; pushed = c.push_reserved.ensures.items } in (
       made_whole b g.K.Told.past c.self.invariant.0.past (g.met.D.Depot.only_now c.commit.new.self)
-          (commit_done b (g.D.Depot.look c.commit.new.self) c.args.who (step_of c.args.step) (name_of c.args.stage.name) (g.D.Stage.Stage.contents c.args.stage.stage) c.requires.may.0 c.requires.may.1 c.requires.may.2 c.requires.goes c.reads_back.ensures (g.D.Stage.Stage.name c.args.stage.stage) c.args.stage.named c.in-Ok-Done.field-0 c.in-Ok-Done.field-0-is c.in-Ok-Done.ensures.call c.reserve.new.self.items c.push_reserved.new.self.items p).0,
+          (commit_done b (g.D.Depot.look c.commit.new.self) c.args.who (step_of c.args.step) (name_of c.args.stage.name) (g.D.Stage.Stage.contents c.args.stage.stage) c.requires.may.0 c.requires.may.1 c.requires.may.2 c.requires.goes
+          c.reads_back.ensures (g.D.Stage.Stage.name c.args.stage.stage) c.args.stage.named c.in-Ok-Done.field-0 c.in-Ok-Done.field-0-is c.in-Ok-Done.ensures.call c.reserve.new.self.items c.push_reserved.new.self.items p).0,
       unfailed_faults c.self.invariant.1 p (g.D.Counted.faults c.commit.new.self) refl c.in-Ok-Done.ensures.cause.later,
       calm_goes (g.D.Depot.look c.self.inside.depot).sure c.self.invariant.2 p (g.D.Depot.look c.commit.new.self).sure refl c.in-Ok-Done.ensures.sure.spent,
     )
@@ -26,7 +28,9 @@ invariant_of-self-in-Ok-Done g c =
 pub returns-in-Ok-Done-clause-step : goal.returns-in-Ok-Done-clause-step
 returns-in-Ok-Done-clause-step g c =
     let b = before_step c.laws.ensures c.self.invariant.0.repo c.self.view_is c.requires.live in
-    let made = commit_done b (g.D.Depot.look c.commit.new.self) c.args.who (step_of c.args.step) (name_of c.args.stage.name) (g.D.Stage.Stage.contents c.args.stage.stage) c.requires.may.0 c.requires.may.1 c.requires.may.2 c.requires.goes c.reads_back.ensures (g.D.Stage.Stage.name c.args.stage.stage) c.args.stage.named c.in-Ok-Done.field-0 c.in-Ok-Done.field-0-is c.in-Ok-Done.ensures.call c.reserve.new.self.items c.push_reserved.new.self.items (record { reserved = c.reserve.ensures.items; pushed = c.push_reserved.ensures.items }) in
+    let made = commit_done b (g.D.Depot.look c.commit.new.self) c.args.who (step_of c.args.step) (name_of c.args.stage.name)
+    (g.D.Stage.Stage.contents c.args.stage.stage) c.requires.may.0 c.requires.may.1 c.requires.may.2 c.requires.goes c.reads_back.ensures (g.D.Stage.Stage.name c.args.stage.stage) c.args.stage.named c.in-Ok-Done.field-0
+    c.in-Ok-Done.field-0-is c.in-Ok-Done.ensures.call c.reserve.new.self.items c.push_reserved.new.self.items (record { reserved = c.reserve.ensures.items; pushed = c.push_reserved.ensures.items }) in
     (made.0.added, ap (λ (i : Option Image). told_blob (formats_of g.K.Told.start) i (name_of c.args.stage.name)) made.0.image_is ∙ made.1)
 
 pub invariant_of-self-then-is_metadata : goal.invariant_of-self-then-is_metadata
@@ -35,15 +39,21 @@ invariant_of-self-then-is_metadata g c =
     let e : Entry = record { who = c.args.who; step = step_of c.args.step; reply = WasThere } in
     let p : Pushed c.self.inside.history.items c.reserve.new.self.items c.push_reserved-then-is_metadata.new.self.items e = record { reserved = c.reserve.ensures.items; pushed = c.push_reserved-then-is_metadata.ensures.items } in (
       made_whole b g.K.Told.past c.self.invariant.0.past (g.met.D.Depot.only_now c.commit.new.self)
-          (commit_found b (g.D.Depot.look c.commit.new.self) c.args.who (step_of c.args.step) (name_of c.args.stage.name) (g.D.Stage.Stage.contents c.args.stage.stage) c.requires.may.0 c.requires.may.1 c.requires.may.2 c.requires.goes c.reads_back.ensures (g.D.Stage.Stage.name c.args.stage.stage) c.args.stage.named c.in-Ok-Exists.field-0 c.in-Ok-Exists.field-0-is c.in-Ok-Exists.ensures.call (c.is_metadata.ensures.yes_it_is c.if-is_metadata.true) c.reserve.new.self.items c.push_reserved-then-is_metadata.new.self.items p),
+          (commit_found b (g.D.Depot.look c.commit.new.self) c.args.who (step_of c.args.step) (name_of c.args.stage.name) (g.D.Stage.Stage.contents c.args.stage.stage) c.requires.may.0 c.requires.may.1
+          c.requires.may.2 c.requires.goes c.reads_back.ensures (g.D.Stage.Stage.name c.args.stage.stage) c.args.stage.named c.in-Ok-Exists.field-0 c.in-Ok-Exists.field-0-is c.in-Ok-Exists.ensures.call
+          (c.is_metadata.ensures.yes_it_is c.if-is_metadata.true) c.reserve.new.self.items c.push_reserved-then-is_metadata.new.self.items p),
       unfailed_faults c.self.invariant.1 p (g.D.Counted.faults c.commit.new.self) refl c.in-Ok-Exists.ensures.cause.later,
       calm_goes (g.D.Depot.look c.self.inside.depot).sure c.self.invariant.2 p (g.D.Depot.look c.commit.new.self).sure refl c.in-Ok-Exists.ensures.sure.spent,
     )
 
 pub returns-then-is_metadata-clause-step : goal.returns-then-is_metadata-clause-step
 returns-then-is_metadata-clause-step g c =
-    let b = before_step c.laws.ensures c.self.invariant.0.repo c.self.view_is c.requires.live in
-    ((commit_found b (g.D.Depot.look c.commit.new.self) c.args.who (step_of c.args.step) (name_of c.args.stage.name) (g.D.Stage.Stage.contents c.args.stage.stage) c.requires.may.0 c.requires.may.1 c.requires.may.2 c.requires.goes c.reads_back.ensures (g.D.Stage.Stage.name c.args.stage.stage) c.args.stage.named c.in-Ok-Exists.field-0 c.in-Ok-Exists.field-0-is c.in-Ok-Exists.ensures.call (c.is_metadata.ensures.yes_it_is c.if-is_metadata.true) c.reserve.new.self.items c.push_reserved-then-is_metadata.new.self.items (record { reserved = c.reserve.ensures.items; pushed = c.push_reserved-then-is_metadata.ensures.items })).added, c.is_metadata.ensures.yes_it_is c.if-is_metadata.true)
+    let b = before_step c.laws.ensures c.self.invariant.0.repo c.self.view_is c.requires.live in (
+      (commit_found b (g.D.Depot.look c.commit.new.self) c.args.who (step_of c.args.step) (name_of c.args.stage.name) (g.D.Stage.Stage.contents c.args.stage.stage) c.requires.may.0 c.requires.may.1 c.requires.may.2 c.requires.goes
+          c.reads_back.ensures (g.D.Stage.Stage.name c.args.stage.stage) c.args.stage.named c.in-Ok-Exists.field-0 c.in-Ok-Exists.field-0-is c.in-Ok-Exists.ensures.call (c.is_metadata.ensures.yes_it_is c.if-is_metadata.true)
+          c.reserve.new.self.items c.push_reserved-then-is_metadata.new.self.items (record { reserved = c.reserve.ensures.items; pushed = c.push_reserved-then-is_metadata.ensures.items })).added,
+      c.is_metadata.ensures.yes_it_is c.if-is_metadata.true,
+    )
 
 pub invariant_of-self-in-Ok-Exists : goal.invariant_of-self-in-Ok-Exists
 invariant_of-self-in-Ok-Exists g c =
@@ -51,7 +61,9 @@ invariant_of-self-in-Ok-Exists g c =
     let e : Entry = record { who = c.args.who; step = step_of c.args.step; reply = Refused (NameTaken (name_of c.args.stage.name)) } in
     let p : Pushed c.self.inside.history.items c.reserve.new.self.items c.push_reserved-in-Ok-Exists.new.self.items e = record { reserved = c.reserve.ensures.items; pushed = c.push_reserved-in-Ok-Exists.ensures.items } in (
       made_whole b g.K.Told.past c.self.invariant.0.past (g.met.D.Depot.only_now c.commit.new.self)
-          (commit_taken b (g.D.Depot.look c.commit.new.self) c.args.who (step_of c.args.step) (name_of c.args.stage.name) (g.D.Stage.Stage.contents c.args.stage.stage) c.requires.may.0 c.requires.may.1 c.requires.may.2 c.requires.goes c.reads_back.ensures (g.D.Stage.Stage.name c.args.stage.stage) c.args.stage.named c.in-Ok-Exists.field-0 c.in-Ok-Exists.field-0-is c.in-Ok-Exists.ensures.call (c.is_metadata.ensures.it_is_not c.if-is_metadata.false) c.reserve.new.self.items c.push_reserved-in-Ok-Exists.new.self.items p),
+          (commit_taken b (g.D.Depot.look c.commit.new.self) c.args.who (step_of c.args.step) (name_of c.args.stage.name) (g.D.Stage.Stage.contents c.args.stage.stage) c.requires.may.0 c.requires.may.1
+          c.requires.may.2 c.requires.goes c.reads_back.ensures (g.D.Stage.Stage.name c.args.stage.stage) c.args.stage.named c.in-Ok-Exists.field-0 c.in-Ok-Exists.field-0-is c.in-Ok-Exists.ensures.call
+          (c.is_metadata.ensures.it_is_not c.if-is_metadata.false) c.reserve.new.self.items c.push_reserved-in-Ok-Exists.new.self.items p),
       unfailed_faults c.self.invariant.1 p (g.D.Counted.faults c.commit.new.self) refl c.in-Ok-Exists.ensures.cause.later,
       calm_goes (g.D.Depot.look c.self.inside.depot).sure c.self.invariant.2 p (g.D.Depot.look c.commit.new.self).sure refl c.in-Ok-Exists.ensures.sure.spent,
     )
@@ -59,33 +71,29 @@ invariant_of-self-in-Ok-Exists g c =
 pub returns-else-is_metadata-clause-step : goal.returns-else-is_metadata-clause-step
 returns-else-is_metadata-clause-step g c =
     let b = before_step c.laws.ensures c.self.invariant.0.repo c.self.view_is c.requires.live in
-    (commit_taken b (g.D.Depot.look c.commit.new.self) c.args.who (step_of c.args.step) (name_of c.args.stage.name) (g.D.Stage.Stage.contents c.args.stage.stage) c.requires.may.0 c.requires.may.1 c.requires.may.2 c.requires.goes c.reads_back.ensures (g.D.Stage.Stage.name c.args.stage.stage) c.args.stage.named c.in-Ok-Exists.field-0 c.in-Ok-Exists.field-0-is c.in-Ok-Exists.ensures.call (c.is_metadata.ensures.it_is_not c.if-is_metadata.false) c.reserve.new.self.items c.push_reserved-in-Ok-Exists.new.self.items (record { reserved = c.reserve.ensures.items; pushed = c.push_reserved-in-Ok-Exists.ensures.items })).added
+    (commit_taken b (g.D.Depot.look c.commit.new.self) c.args.who (step_of c.args.step) (name_of c.args.stage.name) (g.D.Stage.Stage.contents c.args.stage.stage) c.requires.may.0 c.requires.may.1 c.requires.may.2 c.requires.goes c.reads_back.ensures
+    (g.D.Stage.Stage.name c.args.stage.stage) c.args.stage.named c.in-Ok-Exists.field-0 c.in-Ok-Exists.field-0-is c.in-Ok-Exists.ensures.call
+    (c.is_metadata.ensures.it_is_not c.if-is_metadata.false) c.reserve.new.self.items c.push_reserved-in-Ok-Exists.new.self.items (record { reserved = c.reserve.ensures.items; pushed = c.push_reserved-in-Ok-Exists.ensures.items })).added
 
-pub invariant_of-self-in-Err-Memory : goal.invariant_of-self-in-Err-Memory
-invariant_of-self-in-Err-Memory g c =
-    let b = before_step c.laws.ensures c.self.invariant.0.repo c.self.view_is c.requires.live in (
-      wanting_whole b g.K.Told.past c.self.invariant.0.past (g.D.Depot.look c.commit.new.self) c.reserve.new.self.items c.reserve.ensures.items (Committed (g.D.Stage.Stage.name c.args.stage.stage) (g.D.Stage.Stage.contents c.args.stage.stage)) (CommitMay (g.D.Stage.Stage.name c.args.stage.stage) (g.D.Stage.Stage.contents c.args.stage.stage)) c.in-Err-Memory.field-0 c.in-Err-Memory.field-0-is c.in-Err-Memory.ensures.call,
-      same_faults c.reserve.new.self.items (g.D.Counted.faults c.commit.new.self) c.self.invariant.1 c.in-Err-Memory.ensures.cause.later c.reserve.ensures.items,
-      calm_wanting c.self.invariant.2 (g.D.Depot.look c.commit.new.self) c.reserve.new.self.items c.reserve.ensures.items (Committed (g.D.Stage.Stage.name c.args.stage.stage) (g.D.Stage.Stage.contents c.args.stage.stage)) (CommitMay (g.D.Stage.Stage.name c.args.stage.stage) (g.D.Stage.Stage.contents c.args.stage.stage)) c.in-Err-Memory.field-0 c.in-Err-Memory.field-0-is c.in-Err-Memory.ensures.call,
-    )
-
-pub returns-in-Err-Memory-clause-step : goal.returns-in-Err-Memory-clause-step
-returns-in-Err-Memory-clause-step g c =
+pub invariant_of-self-in-Err : goal.invariant_of-self-in-Err
+invariant_of-self-in-Err g c =
     let b = before_step c.laws.ensures c.self.invariant.0.repo c.self.view_is c.requires.live in
-    (wanting b (g.D.Depot.look c.commit.new.self) c.reserve.new.self.items c.reserve.ensures.items (Committed (g.D.Stage.Stage.name c.args.stage.stage) (g.D.Stage.Stage.contents c.args.stage.stage)) (CommitMay (g.D.Stage.Stage.name c.args.stage.stage) (g.D.Stage.Stage.contents c.args.stage.stage)) c.in-Err-Memory.field-0 c.in-Err-Memory.field-0-is c.in-Err-Memory.ensures.call).0
+    error_kept b (g.D.Depot.look c.commit.new.self) c.args.who (step_of c.args.step) c.reserve.new.self.items c.refuse_call.new.history.items c.reserve.ensures.items
+    (Committed (g.D.Stage.Stage.name c.args.stage.stage) (g.D.Stage.Stage.contents c.args.stage.stage)) (CommitMay (g.D.Stage.Stage.name c.args.stage.stage) (g.D.Stage.Stage.contents c.args.stage.stage))
+    c.self.invariant.0 c.self.invariant.1 c.self.invariant.2 (g.met.D.Depot.only_now c.commit.new.self)
+    (g.D.Counted.faults c.commit.new.self) c.in-Err.error c.in-Err.ensures.call c.in-Err.ensures.cause c.in-Err.ensures.sure c.refuse_call.ensures.entries
+    (λ is p. commit_fault b (g.D.Depot.look c.commit.new.self) c.args.who (step_of c.args.step) (name_of c.args.stage.name) (g.D.Stage.Stage.contents c.args.stage.stage) c.requires.may.0 c.requires.may.1
+    c.requires.may.2 c.requires.goes c.reads_back.ensures (g.D.Stage.Stage.name c.args.stage.stage) c.args.stage.named c.in-Err.error is c.in-Err.ensures.call c.reserve.new.self.items c.refuse_call.new.history.items p)
 
-pub invariant_of-self-in-Err-Failed : goal.invariant_of-self-in-Err-Failed
-invariant_of-self-in-Err-Failed g c =
+pub returns-in-Err-clause-step : goal.returns-in-Err-clause-step
+returns-in-Err-clause-step g c =
     let b = before_step c.laws.ensures c.self.invariant.0.repo c.self.view_is c.requires.live in
-    let e : Entry = record { who = c.args.who; step = step_of c.args.step; reply = Refused DepotFault } in
-    let p : Pushed c.self.inside.history.items c.reserve.new.self.items c.push_reserved-in-Err-Failed.new.self.items e = pushed_as c.reserve.new.self.items c.push_reserved-in-Err-Failed.new.self.items c.faulted-failed.result c.reserve.ensures.items c.push_reserved-in-Err-Failed.ensures.items c.faulted-failed.ensures in (
-      made_whole b g.K.Told.past c.self.invariant.0.past (g.met.D.Depot.only_now c.commit.new.self)
-          (commit_fault b (g.D.Depot.look c.commit.new.self) c.args.who (step_of c.args.step) (name_of c.args.stage.name) (g.D.Stage.Stage.contents c.args.stage.stage) c.requires.may.0 c.requires.may.1 c.requires.may.2 c.requires.goes c.reads_back.ensures (g.D.Stage.Stage.name c.args.stage.stage) c.args.stage.named c.in-Err-Failed.field-0 c.in-Err-Failed.field-0-is c.in-Err-Failed.ensures.call c.reserve.new.self.items c.push_reserved-in-Err-Failed.new.self.items p),
-      failed_faults c.self.invariant.1 p (g.D.Counted.faults c.commit.new.self) _ c.in-Err-Failed.ensures.cause (failed_so c.in-Err-Failed.field-0 c.in-Err-Failed.field-0-is) refl,
-      calm_failed (g.D.Depot.look c.self.inside.depot).sure c.self.invariant.2 p (g.D.Depot.look c.commit.new.self).sure _ c.in-Err-Failed.ensures.sure (failed_so c.in-Err-Failed.field-0 c.in-Err-Failed.field-0-is),
-    )
+    error_step b (g.D.Depot.look c.commit.new.self) c.args.who (step_of c.args.step) c.reserve.new.self.items c.refuse_call.new.history.items c.reserve.ensures.items
+    (Committed (g.D.Stage.Stage.name c.args.stage.stage) (g.D.Stage.Stage.contents c.args.stage.stage))
+    (CommitMay (g.D.Stage.Stage.name c.args.stage.stage) (g.D.Stage.Stage.contents c.args.stage.stage)) c.in-Err.error c.in-Err.ensures.call c.refuse_call.ensures.entries
+    (λ is p. commit_fault b (g.D.Depot.look c.commit.new.self) c.args.who (step_of c.args.step) (name_of c.args.stage.name) (g.D.Stage.Stage.contents c.args.stage.stage) c.requires.may.0 c.requires.may.1
+    c.requires.may.2 c.requires.goes c.reads_back.ensures (g.D.Stage.Stage.name c.args.stage.stage) c.args.stage.named c.in-Err.error is c.in-Err.ensures.call c.reserve.new.self.items c.refuse_call.new.history.items p)
+    c.refuse_call.result c.refuse_call.ensures.is
 
-pub returns-in-Err-Failed-clause-step : goal.returns-in-Err-Failed-clause-step
-returns-in-Err-Failed-clause-step g c =
-    let b = before_step c.laws.ensures c.self.invariant.0.repo c.self.view_is c.requires.live in
-    (commit_fault b (g.D.Depot.look c.commit.new.self) c.args.who (step_of c.args.step) (name_of c.args.stage.name) (g.D.Stage.Stage.contents c.args.stage.stage) c.requires.may.0 c.requires.may.1 c.requires.may.2 c.requires.goes c.reads_back.ensures (g.D.Stage.Stage.name c.args.stage.stage) c.args.stage.named c.in-Err-Failed.field-0 c.in-Err-Failed.field-0-is c.in-Err-Failed.ensures.call c.reserve.new.self.items c.push_reserved-in-Err-Failed.new.self.items (pushed_as c.reserve.new.self.items c.push_reserved-in-Err-Failed.new.self.items c.faulted-failed.result c.reserve.ensures.items c.push_reserved-in-Err-Failed.ensures.items c.faulted-failed.ensures)).added
+pub returns-in-Err-clause-why : goal.returns-in-Err-clause-why
+returns-in-Err-clause-why g c = elim c.refuse_call.ensures.why [ inl memory ↦ inl memory | inr fault ↦ inr (inl fault) ]

@@ -1,13 +1,14 @@
 use Rattle.std.proofs.Common.{refl, option_copied}
-use Rattle.esr_core.specs.Entry.{WasListed, Refused, DepotFault, Entry}
+use Rattle.esr_core.specs.Entry.{WasListed, Entry}
 use Rattle.esr_depot.specs.Calls.{SameImage}
 use Rattle.esr_desk.specs.Entries.{step_of}
 use Rattle.esr_desk.specs.Listing.{page_of}
-use Rattle.esr_repo.proofs.BlobCalls.{before_step, Pushed, pushed_as, wanting}
+use Rattle.esr_repo.proofs.BlobCalls.{before_step, Pushed, pushed_as}
 use Rattle.esr_repo.proofs.Listings.{is_page, list_ok, list_fault}
-use Rattle.esr_repo.proofs.Pasts.{made_whole, wanting_whole}
-use Rattle.esr_repo.proofs.Failing.{failed_so, same_faults, unfailed_faults, failed_faults}
-use Rattle.esr_repo.proofs.Calms.{calm_goes, calm_failed, calm_wanting}
+use Rattle.esr_repo.proofs.Pasts.{made_whole}
+use Rattle.esr_repo.proofs.Failing.{unfailed_faults}
+use Rattle.esr_repo.proofs.Calms.{calm_goes}
+use Rattle.esr_repo.proofs.Errors.{error_kept, error_step}
 use Rattle.esr_repo.proofs.repo.Repo.call_list.Goals as goal
 
 pub invariant_of-self-in-Ok : goal.invariant_of-self-in-Ok
@@ -17,7 +18,8 @@ invariant_of-self-in-Ok g c =
     let p : Pushed c.self.inside.history.items c.reserve.new.self.items c.push_reserved.new.self.items e =
     pushed_as c.reserve.new.self.items c.push_reserved.new.self.items _ c.reserve.ensures.items c.push_reserved.ensures.items (λ j. record { who = c.args.who; step = step_of c.args.step; reply = WasListed (page_of (c.in-Ok.ensures.copy j)) }) in (
       made_whole b g.K.Told.past c.self.invariant.0.past (g.met.D.Depot.only_now c.list.new.self)
-          (list_ok b (g.D.Depot.look c.list.new.self) c.args.who (option_copied c.args.after) c.requires.may c.in-Ok.pages c.in-Ok.pages.page (step_of c.args.step) c.requires.is c.in-Ok.ensures.page c.in-Ok.ensures.listing c.in-Ok.ensures.call c.requires.goes c.reserve.new.self.items c.push_reserved.new.self.items p),
+          (list_ok b (g.D.Depot.look c.list.new.self) c.args.who (option_copied c.args.after) c.requires.may c.in-Ok.pages c.in-Ok.pages.page
+          (step_of c.args.step) c.requires.is c.in-Ok.ensures.page c.in-Ok.ensures.listing c.in-Ok.ensures.call c.requires.goes c.reserve.new.self.items c.push_reserved.new.self.items p),
       unfailed_faults c.self.invariant.1 p (g.D.Counted.faults c.list.new.self) refl c.in-Ok.ensures.cause.later,
       calm_goes (g.D.Depot.look c.self.inside.depot).sure c.self.invariant.2 p (g.D.Depot.look c.list.new.self).sure refl c.in-Ok.ensures.sure.spent,
     )
@@ -28,38 +30,25 @@ returns-in-Ok-clause-step g c =
     let e : Entry = record { who = c.args.who; step = step_of c.args.step; reply = WasListed (page_of c.in-Ok.pages.page) } in
     let p : Pushed c.self.inside.history.items c.reserve.new.self.items c.push_reserved.new.self.items e =
     pushed_as c.reserve.new.self.items c.push_reserved.new.self.items _ c.reserve.ensures.items c.push_reserved.ensures.items (λ j. record { who = c.args.who; step = step_of c.args.step; reply = WasListed (page_of (c.in-Ok.ensures.copy j)) }) in
-    (list_ok b (g.D.Depot.look c.list.new.self) c.args.who (option_copied c.args.after) c.requires.may c.in-Ok.pages c.in-Ok.pages.page (step_of c.args.step) c.requires.is c.in-Ok.ensures.page c.in-Ok.ensures.listing c.in-Ok.ensures.call c.requires.goes c.reserve.new.self.items c.push_reserved.new.self.items p).added
+    (list_ok b (g.D.Depot.look c.list.new.self) c.args.who (option_copied c.args.after) c.requires.may c.in-Ok.pages c.in-Ok.pages.page
+    (step_of c.args.step) c.requires.is c.in-Ok.ensures.page c.in-Ok.ensures.listing c.in-Ok.ensures.call c.requires.goes c.reserve.new.self.items c.push_reserved.new.self.items p).added
 
 pub returns-in-Ok-clause-page : goal.returns-in-Ok-clause-page
 returns-in-Ok-clause-page g c = is_page (option_copied c.args.after) c.in-Ok.pages.page c.in-Ok.ensures.page
 
-pub invariant_of-self-in-Err-Memory : goal.invariant_of-self-in-Err-Memory
-invariant_of-self-in-Err-Memory g c =
-    let b = before_step c.laws.ensures c.self.invariant.0.repo c.self.view_is c.requires.live in (
-      wanting_whole b g.K.Told.past c.self.invariant.0.past (g.D.Depot.look c.list.new.self) c.reserve.new.self.items c.reserve.ensures.items (λ _. SameImage) SameImage c.in-Err-Memory.field-0 c.in-Err-Memory.field-0-is c.in-Err-Memory.ensures.call,
-      same_faults c.reserve.new.self.items (g.D.Counted.faults c.list.new.self) c.self.invariant.1 c.in-Err-Memory.ensures.cause.later c.reserve.ensures.items,
-      calm_wanting c.self.invariant.2 (g.D.Depot.look c.list.new.self) c.reserve.new.self.items c.reserve.ensures.items (λ _. SameImage) SameImage c.in-Err-Memory.field-0 c.in-Err-Memory.field-0-is c.in-Err-Memory.ensures.call,
-    )
-
-pub returns-in-Err-Memory-clause-step : goal.returns-in-Err-Memory-clause-step
-returns-in-Err-Memory-clause-step g c =
+pub invariant_of-self-in-Err : goal.invariant_of-self-in-Err
+invariant_of-self-in-Err g c =
     let b = before_step c.laws.ensures c.self.invariant.0.repo c.self.view_is c.requires.live in
-    (wanting b (g.D.Depot.look c.list.new.self) c.reserve.new.self.items c.reserve.ensures.items (λ _. SameImage) SameImage c.in-Err-Memory.field-0 c.in-Err-Memory.field-0-is c.in-Err-Memory.ensures.call).0
+    error_kept b (g.D.Depot.look c.list.new.self) c.args.who (step_of c.args.step) c.reserve.new.self.items c.refuse_call.new.history.items c.reserve.ensures.items (λ _. SameImage) SameImage
+    c.self.invariant.0 c.self.invariant.1 c.self.invariant.2 (g.met.D.Depot.only_now c.list.new.self) (g.D.Counted.faults c.list.new.self) c.in-Err.error c.in-Err.ensures.call c.in-Err.ensures.cause c.in-Err.ensures.sure c.refuse_call.ensures.entries
+    (λ is p. list_fault b (g.D.Depot.look c.list.new.self) c.args.who (option_copied c.args.after) c.requires.may c.in-Err.error
+    (step_of c.args.step) is c.requires.is c.in-Err.ensures.call c.requires.goes c.reserve.new.self.items c.refuse_call.new.history.items p)
 
-pub invariant_of-self-in-Err-Failed : goal.invariant_of-self-in-Err-Failed
-invariant_of-self-in-Err-Failed g c =
+pub returns-in-Err-clause-step : goal.returns-in-Err-clause-step
+returns-in-Err-clause-step g c =
     let b = before_step c.laws.ensures c.self.invariant.0.repo c.self.view_is c.requires.live in
-    let e : Entry = record { who = c.args.who; step = step_of c.args.step; reply = Refused DepotFault } in
-    let p : Pushed c.self.inside.history.items c.reserve.new.self.items c.push_reserved-in-Err-Failed.new.self.items e = pushed_as c.reserve.new.self.items c.push_reserved-in-Err-Failed.new.self.items c.faulted.result c.reserve.ensures.items c.push_reserved-in-Err-Failed.ensures.items c.faulted.ensures in (
-      made_whole b g.K.Told.past c.self.invariant.0.past (g.met.D.Depot.only_now c.list.new.self)
-          (list_fault b (g.D.Depot.look c.list.new.self) c.args.who (option_copied c.args.after) c.requires.may c.in-Err-Failed.field-0 (step_of c.args.step) c.in-Err-Failed.field-0-is c.requires.is c.in-Err-Failed.ensures.call c.requires.goes c.reserve.new.self.items c.push_reserved-in-Err-Failed.new.self.items p),
-      failed_faults c.self.invariant.1 p (g.D.Counted.faults c.list.new.self) _ c.in-Err-Failed.ensures.cause (failed_so c.in-Err-Failed.field-0 c.in-Err-Failed.field-0-is) refl,
-      calm_failed (g.D.Depot.look c.self.inside.depot).sure c.self.invariant.2 p (g.D.Depot.look c.list.new.self).sure _ c.in-Err-Failed.ensures.sure (failed_so c.in-Err-Failed.field-0 c.in-Err-Failed.field-0-is),
-    )
-
-pub returns-in-Err-Failed-clause-step : goal.returns-in-Err-Failed-clause-step
-returns-in-Err-Failed-clause-step g c =
-    let b = before_step c.laws.ensures c.self.invariant.0.repo c.self.view_is c.requires.live in
-    let e : Entry = record { who = c.args.who; step = step_of c.args.step; reply = Refused DepotFault } in
-    let p : Pushed c.self.inside.history.items c.reserve.new.self.items c.push_reserved-in-Err-Failed.new.self.items e = pushed_as c.reserve.new.self.items c.push_reserved-in-Err-Failed.new.self.items c.faulted.result c.reserve.ensures.items c.push_reserved-in-Err-Failed.ensures.items c.faulted.ensures in
-    (list_fault b (g.D.Depot.look c.list.new.self) c.args.who (option_copied c.args.after) c.requires.may c.in-Err-Failed.field-0 (step_of c.args.step) c.in-Err-Failed.field-0-is c.requires.is c.in-Err-Failed.ensures.call c.requires.goes c.reserve.new.self.items c.push_reserved-in-Err-Failed.new.self.items p).added
+    error_step b (g.D.Depot.look c.list.new.self) c.args.who (step_of c.args.step) c.reserve.new.self.items c.refuse_call.new.history.items c.reserve.ensures.items
+    (λ _. SameImage) SameImage c.in-Err.error c.in-Err.ensures.call c.refuse_call.ensures.entries
+    (λ is p. list_fault b (g.D.Depot.look c.list.new.self) c.args.who (option_copied c.args.after) c.requires.may c.in-Err.error
+    (step_of c.args.step) is c.requires.is c.in-Err.ensures.call c.requires.goes c.reserve.new.self.items c.refuse_call.new.history.items p)
+    c.refuse_call.result c.refuse_call.ensures.is

@@ -1,4 +1,4 @@
-use Rattle.std.proofs.Common.{◌≡◌, ℕ, List, Option, refl, sym, ◌∙◌}
+use Rattle.std.proofs.Common.{◌≡◌, ℕ, List, Option, refl, sym, ◌∙◌, le_refl}
 use Rattle.esr_core.specs.Entry.{Entry, Step, Refused, Moment}
 use Rattle.esr_ops.specs.Plan.{Plan}
 use Rattle.esr_desk.specs.Start.{Start}
@@ -14,7 +14,7 @@ use Rattle.esr_repo.proofs.BlobCalls.{Pushed}
 use Rattle.esr_repo.proofs.Pasts.{noted_whole}
 use Rattle.esr_repo.proofs.Callers.{blocked_caller}
 use Rattle.esr_repo.proofs.Blocked.{Tells, block_tells, block_plain, block_no_fault}
-use Rattle.esr_repo.proofs.Failing.{no_later, blocked_faults}
+use Rattle.esr_repo.proofs.Failing.{blocked_faults}
 use Rattle.esr_repo.proofs.Calms.{no_call, calm_goes}
 use Rattle.esr_repo.proofs.repo.Repo.check.Goals as goal
 
@@ -22,13 +22,15 @@ pub returns-in_default-clause-step : goal.returns-in_default-clause-step
 returns-in_default-clause-step g c =
     let k : Kept = record { cluster = c.self.inside.cluster; root = c.self.inside.root; infos = c.self.inside.infos.items; plan = c.self.inside.progress; next = c.self.inside.next.number } in (
       refl,
-      (free_goes (g.D.Depot.look c.self.inside.depot) g.K.Told.start g.K.Told.clock c.self.inside.history.items k c.self.inside.deposed c.args.self.now c.self.invariant.0.repo c.self.view_is c.args.who (step_of c.args.step) (sym c.block.ensures ∙ c.in_default.is) c.requires.fresh c.requires.own).0,
+      (free_goes (g.D.Depot.look c.self.inside.depot) g.K.Told.start g.K.Told.clock c.self.inside.history.items k c.self.inside.deposed c.args.self.now c.self.invariant.0.repo c.self.view_is c.args.who
+          (step_of c.args.step) (sym c.block.ensures ∙ c.in_default.is) c.requires.fresh c.requires.own).0,
     )
 
 pub returns-in_default-clause-goes : goal.returns-in_default-clause-goes
 returns-in_default-clause-goes g c =
     let k : Kept = record { cluster = c.self.inside.cluster; root = c.self.inside.root; infos = c.self.inside.infos.items; plan = c.self.inside.progress; next = c.self.inside.next.number } in
-    (free_goes (g.D.Depot.look c.self.inside.depot) g.K.Told.start g.K.Told.clock c.self.inside.history.items k c.self.inside.deposed c.args.self.now c.self.invariant.0.repo c.self.view_is c.args.who (step_of c.args.step) (sym c.block.ensures ∙ c.in_default.is) c.requires.fresh c.requires.own).1
+    (free_goes (g.D.Depot.look c.self.inside.depot) g.K.Told.start g.K.Told.clock c.self.inside.history.items k c.self.inside.deposed c.args.self.now c.self.invariant.0.repo c.self.view_is c.args.who
+    (step_of c.args.step) (sym c.block.ensures ∙ c.in_default.is) c.requires.fresh c.requires.own).1
 
 pub invariant_of-self-2 : goal.invariant_of-self-2
 invariant_of-self-2 g c =
@@ -37,11 +39,13 @@ invariant_of-self-2 g c =
     let tells = block_tells c.self.inside.deposed c.self.inside.progress c.args.who (step_of c.args.step) c.in-Some.refusal (sym c.block.ensures ∙ c.in-Some.is) in
     let plain = block_plain c.self.inside.deposed c.self.inside.progress c.args.who (step_of c.args.step) c.in-Some.refusal tells in
     let p : Pushed c.self.inside.history.items c.reserve.new.self.items c.push_reserved.new.self.items e = record { reserved = c.reserve.ensures.items; pushed = c.push_reserved.ensures.items } in (
-      noted_whole c.laws.ensures (g.D.Depot.look c.self.inside.depot) g.K.Told.start g.K.Told.clock g.K.Told.past c.self.inside.history.items c.reserve.new.self.items c.push_reserved.new.self.items e c.self.invariant.0 (g.met.D.Depot.only_now c.self.inside.depot) plain c.reserve.ensures.items c.push_reserved.ensures.items
+      noted_whole c.laws.ensures (g.D.Depot.look c.self.inside.depot) g.K.Told.start g.K.Told.clock g.K.Told.past c.self.inside.history.items c.reserve.new.self.items c.push_reserved.new.self.items e c.self.invariant.0
+          (g.met.D.Depot.only_now c.self.inside.depot) plain c.reserve.ensures.items c.push_reserved.ensures.items
           (blocked_repo c.laws.ensures (g.D.Depot.look c.self.inside.depot) g.K.Told.start g.K.Told.clock c.self.inside.history.items c.reserve.new.self.items c.push_reserved.new.self.items k c.self.inside.deposed c.args.self.now e
           c.self.invariant.0.repo c.self.view_is c.reserve.ensures.items c.push_reserved.ensures.items c.in-Some.refusal tells c.requires.fresh c.requires.own refl),
-      blocked_faults c.self.invariant.1 p (g.D.Counted.faults c.self.inside.depot) c.self.inside.progress c.in-Some.refusal tells refl (no_later (g.D.Counted.faults c.self.inside.depot)),
-      calm_goes (g.D.Depot.look c.self.inside.depot).sure c.self.invariant.2 p (g.D.Depot.look c.self.inside.depot).sure (block_no_fault c.self.inside.deposed c.self.inside.progress c.args.who (step_of c.args.step) c.in-Some.refusal tells) (no_call (g.D.Depot.look c.self.inside.depot).sure),
+      blocked_faults c.self.invariant.1 p (g.D.Counted.faults c.self.inside.depot) c.self.inside.progress c.in-Some.refusal tells refl (le_refl (g.D.Counted.faults c.self.inside.depot)),
+      calm_goes (g.D.Depot.look c.self.inside.depot).sure c.self.invariant.2 p (g.D.Depot.look c.self.inside.depot).sure
+          (block_no_fault c.self.inside.deposed c.self.inside.progress c.args.who (step_of c.args.step) c.in-Some.refusal tells) (no_call (g.D.Depot.look c.self.inside.depot).sure),
     )
 
 pub returns-clause-step : goal.returns-clause-step
@@ -54,12 +58,14 @@ returns-clause-step g c =
 
 pub returns-clause-kept : goal.returns-clause-kept
 returns-clause-kept g c =
-    let plain = block_plain c.self.inside.deposed c.self.inside.progress c.args.who (step_of c.args.step) c.in-Some.refusal (block_tells c.self.inside.deposed c.self.inside.progress c.args.who (step_of c.args.step) c.in-Some.refusal (sym c.block.ensures ∙ c.in-Some.is)) in
+    let plain = block_plain c.self.inside.deposed c.self.inside.progress c.args.who (step_of c.args.step) c.in-Some.refusal
+    (block_tells c.self.inside.deposed c.self.inside.progress c.args.who (step_of c.args.step) c.in-Some.refusal (sym c.block.ensures ∙ c.in-Some.is)) in
     refused_tickets g.K.Told.start c.args.self.now _ c.args.who (step_of c.args.step) (refusal_of c.in-Some.refusal) plain (returns-clause-step g c)
 
 pub returns-clause-readers : goal.returns-clause-readers
 returns-clause-readers g c =
-    let plain = block_plain c.self.inside.deposed c.self.inside.progress c.args.who (step_of c.args.step) c.in-Some.refusal (block_tells c.self.inside.deposed c.self.inside.progress c.args.who (step_of c.args.step) c.in-Some.refusal (sym c.block.ensures ∙ c.in-Some.is)) in
+    let plain = block_plain c.self.inside.deposed c.self.inside.progress c.args.who (step_of c.args.step) c.in-Some.refusal
+    (block_tells c.self.inside.deposed c.self.inside.progress c.args.who (step_of c.args.step) c.in-Some.refusal (sym c.block.ensures ∙ c.in-Some.is)) in
     refused_readers g.K.Told.start c.args.self.now _ c.args.who (step_of c.args.step) (refusal_of c.in-Some.refusal) plain (returns-clause-step g c)
 
 pub returns-clause-caller : goal.returns-clause-caller

@@ -7,7 +7,8 @@ use Rattle.esr_repo.proofs.repo.Repo.is_ready.Goals as goal
 pub returns-then-is_some-clause-ready : goal.returns-then-is_some-clause-ready
 returns-then-is_some-clause-ready g c =
     let k : Kept = record { cluster = c.self.inside.cluster; root = c.self.inside.root; infos = c.self.inside.infos.items; plan = c.self.inside.progress; next = c.self.inside.next.number } in
-    λ any live. absurd (fell (g.D.Depot.look c.self.inside.depot) g.K.Told.start g.K.Told.clock c.self.inside.history.items k c.args.self.now c.self.inside.deposed c.self.invariant.0.repo c.self.view_is (sym c.is_some.ensures ∙ c.if-is_some.true) live)
+    λ any live.
+    absurd (fell (g.D.Depot.look c.self.inside.depot) g.K.Told.start g.K.Told.clock c.self.inside.history.items k c.args.self.now c.self.inside.deposed c.self.invariant.0.repo c.self.view_is (sym c.is_some.ensures ∙ c.if-is_some.true) live)
 
 pub ready-requires-clause-live : goal.ready-requires-clause-live
 ready-requires-clause-live g c =

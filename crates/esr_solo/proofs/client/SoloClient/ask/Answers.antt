@@ -14,7 +14,8 @@ invariant_of-self g c =
     (AskStep (asked_of c.args.command.now)) _ c.ask-answer.result c.turns.ensures (λ x why e d. cc) (λ x before who. refl) (λ name e no_metadata noted. cc) c.ask-answer.ensures tt tt
 
 pub returns-clause-step : goal.returns-clause-step
-returns-clause-step g c = outcome g.K.Told.start c.self.inside.repo c.args.self.now c.ask-answer.new.repo 0 (AskStep (asked_of c.args.command.now)) _ c.ask-answer.result c.self.inside.left c.self.view_is c.is_legal.ensures c.self.invariant.0 c.if-self-eq0.false c.grounds.ensures c.ask-answer.ensures
+returns-clause-step g c = outcome g.K.Told.start c.self.inside.repo c.args.self.now c.ask-answer.new.repo 0
+    (AskStep (asked_of c.args.command.now)) _ c.ask-answer.result c.self.inside.left c.self.view_is c.is_legal.ensures c.self.invariant.0 c.if-self-eq0.false c.grounds.ensures c.ask-answer.ensures
 
 pub returns-clause-calls : goal.returns-clause-calls
 returns-clause-calls g c = calls_client g.K.Told.start c.self.inside.repo c.args.self.now c.ask-answer.new.repo (AskStep (asked_of c.args.command.now)) _ c.ask-answer.result c.self.view_is c.ask-answer.ensures

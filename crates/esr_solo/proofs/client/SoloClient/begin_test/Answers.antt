@@ -14,10 +14,12 @@ invariant_of-self g c =
     (ReadStep (BeginTest (name_of c.args.blob.name))) _ c.begin_test-answer.result c.turns.ensures (λ x why e d. cc) (λ x before who. refl) (λ name e no_metadata noted. cc) c.begin_test-answer.ensures.step tt tt
 
 pub returns-clause-step : goal.returns-clause-step
-returns-clause-step g c = outcome g.K.Told.start c.self.inside.repo c.args.self.now c.begin_test-answer.new.repo 0 (ReadStep (BeginTest (name_of c.args.blob.name))) _ c.begin_test-answer.result c.self.inside.left c.self.view_is c.is_legal.ensures c.self.invariant.0 c.if-self-eq0.false c.grounds.ensures c.begin_test-answer.ensures.step
+returns-clause-step g c = outcome g.K.Told.start c.self.inside.repo c.args.self.now c.begin_test-answer.new.repo 0
+    (ReadStep (BeginTest (name_of c.args.blob.name))) _ c.begin_test-answer.result c.self.inside.left c.self.view_is c.is_legal.ensures c.self.invariant.0 c.if-self-eq0.false c.grounds.ensures c.begin_test-answer.ensures.step
 
 pub returns-clause-calls : goal.returns-clause-calls
 returns-clause-calls g c = calls_client g.K.Told.start c.self.inside.repo c.args.self.now c.begin_test-answer.new.repo (ReadStep (BeginTest (name_of c.args.blob.name))) _ c.begin_test-answer.result c.self.view_is c.begin_test-answer.ensures.step
 
 pub returns-clause-sure : goal.returns-clause-sure
-returns-clause-sure g c = turns_left c.begin_test-answer.result (g.K.Told.start.quiet ≡ true) (length c.self.inside.repo < 2 ^ 41) (λ s. IsTrue (g.D.Stage.Stage.is_sure s.stage)) (is_short c.self.inside.repo c.self.inside.left c.self.invariant.0 c.if-self-eq0.false) c.begin_test-answer.ensures.sure
+returns-clause-sure g c = turns_left c.begin_test-answer.result (g.K.Told.start.quiet ≡ true) (length c.self.inside.repo < 2 ^ 41)
+    (λ s. IsTrue (g.D.Stage.Stage.is_sure s.stage)) (is_short c.self.inside.repo c.self.inside.left c.self.invariant.0 c.if-self-eq0.false) c.begin_test-answer.ensures.sure

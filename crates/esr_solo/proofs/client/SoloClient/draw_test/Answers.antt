@@ -13,7 +13,8 @@ invariant_of-self g c =
     (ReadStep DrawTest) _ c.draw_test-answer.result c.turns.ensures (λ x why e d. cc) (λ x before who. refl) (λ name e no_metadata noted. cc) c.draw_test-answer.ensures.step tt tt
 
 pub returns-clause-step : goal.returns-clause-step
-returns-clause-step g c = outcome g.K.Told.start c.self.inside.repo c.args.self.now c.draw_test-answer.new.repo 0 (ReadStep DrawTest) _ c.draw_test-answer.result c.self.inside.left c.self.view_is c.is_legal.ensures c.self.invariant.0 c.if-self-eq0.false c.grounds.ensures c.draw_test-answer.ensures.step
+returns-clause-step g c = outcome g.K.Told.start c.self.inside.repo c.args.self.now c.draw_test-answer.new.repo 0
+    (ReadStep DrawTest) _ c.draw_test-answer.result c.self.inside.left c.self.view_is c.is_legal.ensures c.self.invariant.0 c.if-self-eq0.false c.grounds.ensures c.draw_test-answer.ensures.step
 
 pub returns-clause-calls : goal.returns-clause-calls
 returns-clause-calls g c = calls_client g.K.Told.start c.self.inside.repo c.args.self.now c.draw_test-answer.new.repo (ReadStep DrawTest) _ c.draw_test-answer.result c.self.view_is c.draw_test-answer.ensures.step

@@ -14,7 +14,9 @@ invariant_of-self g c =
     (ReadStep (RemoveTests (map name_of c.args.names.now))) _ c.remove_tests-answer.result c.turns.ensures (λ x why e d. cc) (λ x before who. refl) (λ name e no_metadata noted. cc) c.remove_tests-answer.ensures.step tt tt
 
 pub returns-clause-step : goal.returns-clause-step
-returns-clause-step g c = outcome g.K.Told.start c.self.inside.repo c.args.self.now c.remove_tests-answer.new.repo 0 (ReadStep (RemoveTests (map name_of c.args.names.now))) _ c.remove_tests-answer.result c.self.inside.left c.self.view_is c.is_legal.ensures c.self.invariant.0 c.if-self-eq0.false c.grounds.ensures c.remove_tests-answer.ensures.step
+returns-clause-step g c = outcome g.K.Told.start c.self.inside.repo c.args.self.now c.remove_tests-answer.new.repo 0
+    (ReadStep (RemoveTests (map name_of c.args.names.now))) _ c.remove_tests-answer.result c.self.inside.left c.self.view_is c.is_legal.ensures c.self.invariant.0 c.if-self-eq0.false c.grounds.ensures c.remove_tests-answer.ensures.step
 
 pub returns-clause-calls : goal.returns-clause-calls
-returns-clause-calls g c = calls_client g.K.Told.start c.self.inside.repo c.args.self.now c.remove_tests-answer.new.repo (ReadStep (RemoveTests (map name_of c.args.names.now))) _ c.remove_tests-answer.result c.self.view_is c.remove_tests-answer.ensures.step
+returns-clause-calls g c =
+    calls_client g.K.Told.start c.self.inside.repo c.args.self.now c.remove_tests-answer.new.repo (ReadStep (RemoveTests (map name_of c.args.names.now))) _ c.remove_tests-answer.result c.self.view_is c.remove_tests-answer.ensures.step

@@ -17,13 +17,16 @@ invariant_of-self g c =
     (BeginStep (name_of c.args.blob.name)) _ c.begin-answer.result c.turns.ensures (λ x why e d. cc) (λ x before who. refl) (λ name e no_metadata noted. cc) c.begin-answer.ensures.step tt tt
 
 pub returns-clause-step : goal.returns-clause-step
-returns-clause-step g c = outcome g.K.Told.start c.self.inside.repo c.args.self.now c.begin-answer.new.repo c.args.ticket (BeginStep (name_of c.args.blob.name)) _ c.begin-answer.result c.self.inside.left c.self.view_is c.is_legal.ensures c.self.invariant.0 c.if-self-eq0.false c.grounds.ensures c.begin-answer.ensures.step
+returns-clause-step g c = outcome g.K.Told.start c.self.inside.repo c.args.self.now c.begin-answer.new.repo c.args.ticket
+    (BeginStep (name_of c.args.blob.name)) _ c.begin-answer.result c.self.inside.left c.self.view_is c.is_legal.ensures c.self.invariant.0 c.if-self-eq0.false c.grounds.ensures c.begin-answer.ensures.step
 
 pub returns-clause-calls : goal.returns-clause-calls
-returns-clause-calls g c = calls_ticket g.K.Told.start c.self.inside.repo c.args.self.now c.begin-answer.new.repo c.args.ticket (BeginStep (name_of c.args.blob.name)) _ c.begin-answer.result c.self.view_is c.requires.mine.some c.begin-answer.ensures.step
+returns-clause-calls g c =
+    calls_ticket g.K.Told.start c.self.inside.repo c.args.self.now c.begin-answer.new.repo c.args.ticket (BeginStep (name_of c.args.blob.name)) _ c.begin-answer.result c.self.view_is c.requires.mine.some c.begin-answer.ensures.step
 
 pub returns-clause-sure : goal.returns-clause-sure
-returns-clause-sure g c = turns_left c.begin-answer.result (g.K.Told.start.quiet ≡ true) (length c.self.inside.repo < 2 ^ 41) (λ s. IsTrue (g.D.Stage.Stage.is_sure s.stage)) (is_short c.self.inside.repo c.self.inside.left c.self.invariant.0 c.if-self-eq0.false) c.begin-answer.ensures.sure
+returns-clause-sure g c = turns_left c.begin-answer.result (g.K.Told.start.quiet ≡ true) (length c.self.inside.repo < 2 ^ 41)
+    (λ s. IsTrue (g.D.Stage.Stage.is_sure s.stage)) (is_short c.self.inside.repo c.self.inside.left c.self.invariant.0 c.if-self-eq0.false) c.begin-answer.ensures.sure
 
 pub begin-answer-requires-clause-may : goal.begin-answer-requires-clause-may
 begin-answer-requires-clause-may g c = subst (λ (log : List Moment). CanBegin g.K.Told.start (ticket_of g.K.Told.start log c.args.ticket) (name_of c.args.blob.name)) (sym c.self.view_is) c.requires.may

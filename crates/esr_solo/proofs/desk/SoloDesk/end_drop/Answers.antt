@@ -13,7 +13,8 @@ invariant_of-self g c =
     DroppedStep _ c.end_drop-answer.result c.turns.ensures (λ x why e d. cc) (λ x before who. refl) (λ name e no_metadata noted. cc) c.end_drop-answer.ensures.step tt tt
 
 pub returns-clause-step : goal.returns-clause-step
-returns-clause-step g c = outcome g.K.Told.start c.self.inside.repo c.args.self.now c.end_drop-answer.new.repo c.args.ticket DroppedStep _ c.end_drop-answer.result c.self.inside.left c.self.view_is c.is_legal.ensures c.self.invariant.0 c.if-self-eq0.false c.grounds.ensures c.end_drop-answer.ensures.step
+returns-clause-step g c = outcome g.K.Told.start c.self.inside.repo c.args.self.now c.end_drop-answer.new.repo c.args.ticket DroppedStep _ c.end_drop-answer.result
+    c.self.inside.left c.self.view_is c.is_legal.ensures c.self.invariant.0 c.if-self-eq0.false c.grounds.ensures c.end_drop-answer.ensures.step
 
 pub returns-clause-calls : goal.returns-clause-calls
 returns-clause-calls g c = calls_ticket g.K.Told.start c.self.inside.repo c.args.self.now c.end_drop-answer.new.repo c.args.ticket DroppedStep _ c.end_drop-answer.result c.self.view_is c.requires.mine.some c.end_drop-answer.ensures.step

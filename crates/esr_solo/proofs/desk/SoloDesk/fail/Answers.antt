@@ -21,17 +21,29 @@ pub returns-then-is_err-clause-calls : goal.returns-then-is_err-clause-calls
 returns-then-is_err-clause-calls g c = ap (calls_at 0) c.self.view_is ∙ calls_wanting c.args.failure.who.hand c.self.inside.repo (fail_step c.args.failure.who.hand (why_of c.args.failure.why)) (λ _. HasEnded) (calls_at 0 c.args.self.now)
 
 pub invariant_of-self : goal.invariant_of-self
-invariant_of-self g c = (c.self.invariant.0, same_objects _ g.K.Told.start c.self.inside.repo c.self.inside.faults.items c.reserve.new.self.items c.reserve.ensures.items c.self.invariant.1, c.self.invariant.2, c.self.invariant.3, c.self.invariant.4, c.self.invariant.5, c.self.invariant.6, c.self.invariant.7)
+invariant_of-self g c = (
+  c.self.invariant.0,
+  same_objects _ g.K.Told.start c.self.inside.repo c.self.inside.faults.items c.reserve.new.self.items c.reserve.ensures.items c.self.invariant.1,
+  c.self.invariant.2,
+  c.self.invariant.3,
+  c.self.invariant.4,
+  c.self.invariant.5,
+  c.self.invariant.6,
+  c.self.invariant.7,
+)
 
 pub invariant_of-self-2 : goal.invariant_of-self-2
 invariant_of-self-2 g c =
     keeps_report _ g.K.Told.start c.self.inside.repo c.fail-answer.new.repo c.args.failure.who.number c.self.inside.faults.items c.self.inside.targets.items c.self.inside.left c.turns.result 1099511627776 c.self.invariant c.if-self-eq0.false
-    c.args.failure.who.hand c.args.self.now (why_of c.args.failure.why) c.fail-answer.result c.reserve.new.self.items c.keep.new.faults.items c.args.failure.by c.turns.ensures c.self.view_is (teller_is c.args.failure.who.hand (calls_at 0 c.args.self.now) c.args.failure.who.number c.requires.mine) c.requires.shown c.reserve.ensures.items
+    c.args.failure.who.hand c.args.self.now (why_of c.args.failure.why) c.fail-answer.result c.reserve.new.self.items c.keep.new.faults.items c.args.failure.by c.turns.ensures c.self.view_is
+    (teller_is c.args.failure.who.hand (calls_at 0 c.args.self.now) c.args.failure.who.number c.requires.mine) c.requires.shown c.reserve.ensures.items
     c.keep.ensures c.fail-answer.ensures.step
 
 pub returns-clause-step : goal.returns-clause-step
 returns-clause-step g c =
-    outcome g.K.Told.start c.self.inside.repo c.args.self.now c.fail-answer.new.repo c.args.failure.who.number (fail_step c.args.failure.who.hand (why_of c.args.failure.why)) (λ _. HasEnded) c.fail-answer.result c.self.inside.left c.self.view_is c.is_legal.ensures c.self.invariant.0 c.if-self-eq0.false c.grounds.ensures c.fail-answer.ensures.step
+    outcome g.K.Told.start c.self.inside.repo c.args.self.now c.fail-answer.new.repo c.args.failure.who.number (fail_step c.args.failure.who.hand (why_of c.args.failure.why))
+    (λ _. HasEnded) c.fail-answer.result c.self.inside.left c.self.view_is c.is_legal.ensures c.self.invariant.0 c.if-self-eq0.false c.grounds.ensures c.fail-answer.ensures.step
 
 pub returns-clause-calls : goal.returns-clause-calls
-returns-clause-calls g c = calls_hand c.args.failure.who.hand g.K.Told.start c.self.inside.repo c.args.self.now c.fail-answer.new.repo c.args.failure.who.number (fail_step c.args.failure.who.hand (why_of c.args.failure.why)) (λ _. HasEnded) c.fail-answer.result c.self.view_is c.requires.mine c.fail-answer.ensures.step
+returns-clause-calls g c = calls_hand c.args.failure.who.hand g.K.Told.start c.self.inside.repo c.args.self.now c.fail-answer.new.repo c.args.failure.who.number
+    (fail_step c.args.failure.who.hand (why_of c.args.failure.why)) (λ _. HasEnded) c.fail-answer.result c.self.view_is c.requires.mine c.fail-answer.ensures.step

@@ -13,19 +13,25 @@ returns-then-self-eq0-clause-step g c = spent g.K.Told.start c.self.inside.repo 
 pub invariant_of-self : goal.invariant_of-self
 invariant_of-self g c =
     keeps _ g.K.Told.start c.self.inside.repo c.fetch-answer.new.repo c.args.who.number c.self.inside.faults.items c.self.inside.targets.items c.self.inside.left c.turns.result _ c.self.invariant c.if-self-eq0.false
-    (fetch_step c.args.who.hand (name_of c.args.name)) fetch_reply c.fetch-answer.result c.turns.ensures (λ o. fetch_reports c.args.who.hand (name_of c.args.name) (fetch_reply o)) (λ o. fetch_restores c.args.who.hand (name_of c.args.name) o) (fetch_commits c.args.who.hand g.K.Told.start c.self.inside.repo c.args.who.number (name_of c.args.name)) c.fetch-answer.ensures.step (fetch_tests c.args.who.hand g.K.Told.start c.self.inside.repo c.fetch-answer.new.repo (name_of c.args.name) c.fetch-answer.result) (fetch_removes c.args.who.hand c.self.inside.repo c.args.who.number (name_of c.args.name))
+    (fetch_step c.args.who.hand (name_of c.args.name)) fetch_reply c.fetch-answer.result c.turns.ensures (λ o. fetch_reports c.args.who.hand (name_of c.args.name) (fetch_reply o))
+    (λ o. fetch_restores c.args.who.hand (name_of c.args.name) o) (fetch_commits c.args.who.hand g.K.Told.start c.self.inside.repo c.args.who.number (name_of c.args.name)) c.fetch-answer.ensures.step
+    (fetch_tests c.args.who.hand g.K.Told.start c.self.inside.repo c.fetch-answer.new.repo (name_of c.args.name) c.fetch-answer.result) (fetch_removes c.args.who.hand c.self.inside.repo c.args.who.number (name_of c.args.name))
 
 pub returns-clause-step : goal.returns-clause-step
-returns-clause-step g c = outcome g.K.Told.start c.self.inside.repo c.args.self.now c.fetch-answer.new.repo c.args.who.number (fetch_step c.args.who.hand (name_of c.args.name)) fetch_reply c.fetch-answer.result c.self.inside.left c.self.view_is c.is_legal.ensures c.self.invariant.0 c.if-self-eq0.false c.grounds.ensures c.fetch-answer.ensures.step
+returns-clause-step g c = outcome g.K.Told.start c.self.inside.repo c.args.self.now c.fetch-answer.new.repo c.args.who.number
+    (fetch_step c.args.who.hand (name_of c.args.name)) fetch_reply c.fetch-answer.result c.self.inside.left c.self.view_is c.is_legal.ensures c.self.invariant.0 c.if-self-eq0.false c.grounds.ensures c.fetch-answer.ensures.step
 
 pub returns-clause-calls : goal.returns-clause-calls
-returns-clause-calls g c = calls_hand c.args.who.hand g.K.Told.start c.self.inside.repo c.args.self.now c.fetch-answer.new.repo c.args.who.number (fetch_step c.args.who.hand (name_of c.args.name)) fetch_reply c.fetch-answer.result c.self.view_is c.requires.mine c.fetch-answer.ensures.step
+returns-clause-calls g c = calls_hand c.args.who.hand g.K.Told.start c.self.inside.repo c.args.self.now c.fetch-answer.new.repo c.args.who.number
+    (fetch_step c.args.who.hand (name_of c.args.name)) fetch_reply c.fetch-answer.result c.self.view_is c.requires.mine c.fetch-answer.ensures.step
 
 pub returns-then-self-eq0-clause-calls : goal.returns-then-self-eq0-clause-calls
 returns-then-self-eq0-clause-calls g c = calls_same c.args.who.hand c.args.self.now (fetch_step c.args.who.hand (name_of c.args.name)) fetch_reply (calls_at 0 c.args.self.now)
 
 pub returns-clause-few : goal.returns-clause-few
-returns-clause-few g c = is_few g.K.Told.start c.self.inside.repo c.fetch-answer.new.repo c.args.who.number (fetch_step c.args.who.hand (name_of c.args.name)) fetch_reply c.fetch-answer.result c.self.inside.left c.self.invariant.0 c.if-self-eq0.false c.fetch-answer.ensures.step
+returns-clause-few g c = is_few g.K.Told.start c.self.inside.repo c.fetch-answer.new.repo c.args.who.number
+    (fetch_step c.args.who.hand (name_of c.args.name)) fetch_reply c.fetch-answer.result c.self.inside.left c.self.invariant.0 c.if-self-eq0.false c.fetch-answer.ensures.step
 
 pub returns-clause-sure : goal.returns-clause-sure
-returns-clause-sure g c = turns_left_of c.fetch-answer.result (g.K.Told.start.quiet ≡ true) (length c.self.inside.repo < 2 ^ 41) (λ f. IsTrue (g.D.Fetch.Fetch.is_sure f)) (is_short c.self.inside.repo c.self.inside.left c.self.invariant.0 c.if-self-eq0.false) c.fetch-answer.ensures.sure
+returns-clause-sure g c = turns_left_of c.fetch-answer.result (g.K.Told.start.quiet ≡ true) (length c.self.inside.repo < 2 ^ 41)
+    (λ f. IsTrue (g.D.Fetch.Fetch.is_sure f)) (is_short c.self.inside.repo c.self.inside.left c.self.invariant.0 c.if-self-eq0.false) c.fetch-answer.ensures.sure

@@ -14,7 +14,9 @@ invariant_of-self g c =
     (PruneStep (PlanShards (map pruned_of c.args.basis.now.shards.now))) _ c.plan_delete-answer.result c.turns.ensures (λ x why e d. cc) (λ x before who. refl) (λ name e no_metadata noted. cc) c.plan_delete-answer.ensures.step tt tt
 
 pub returns-clause-step : goal.returns-clause-step
-returns-clause-step g c = outcome g.K.Told.start c.self.inside.repo c.args.self.now c.plan_delete-answer.new.repo c.args.ticket (PruneStep (PlanShards (map pruned_of c.args.basis.now.shards.now))) _ c.plan_delete-answer.result c.self.inside.left c.self.view_is c.is_legal.ensures c.self.invariant.0 c.if-self-eq0.false c.grounds.ensures c.plan_delete-answer.ensures.step
+returns-clause-step g c = outcome g.K.Told.start c.self.inside.repo c.args.self.now c.plan_delete-answer.new.repo c.args.ticket
+    (PruneStep (PlanShards (map pruned_of c.args.basis.now.shards.now))) _ c.plan_delete-answer.result c.self.inside.left c.self.view_is c.is_legal.ensures c.self.invariant.0 c.if-self-eq0.false c.grounds.ensures c.plan_delete-answer.ensures.step
 
 pub returns-clause-calls : goal.returns-clause-calls
-returns-clause-calls g c = calls_ticket g.K.Told.start c.self.inside.repo c.args.self.now c.plan_delete-answer.new.repo c.args.ticket (PruneStep (PlanShards (map pruned_of c.args.basis.now.shards.now))) _ c.plan_delete-answer.result c.self.view_is c.requires.mine.some c.plan_delete-answer.ensures.step
+returns-clause-calls g c = calls_ticket g.K.Told.start c.self.inside.repo c.args.self.now c.plan_delete-answer.new.repo c.args.ticket
+    (PruneStep (PlanShards (map pruned_of c.args.basis.now.shards.now))) _ c.plan_delete-answer.result c.self.view_is c.requires.mine.some c.plan_delete-answer.ensures.step

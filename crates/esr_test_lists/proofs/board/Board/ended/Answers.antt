@@ -1,10 +1,11 @@
 use Rattle.std.proofs.Common.{sym, ap}
 use Rattle.std.specs.Prelude.{is_some}
-use Rattle.esr_test_lists.proofs.Boards.{ending}
+use Rattle.esr_test_lists.proofs.Boards.{ending, renewed}
 use Rattle.esr_test_lists.proofs.board.Board.ended.Goals as goal
 
 pub ended-requires : goal.ended-requires
 ended-requires c = ap is_some (sym c.in-Some.ensures)
 
 pub invariant_of-self : goal.invariant_of-self
-invariant_of-self c = ending c.self.invariant c.in_ok-list.list c.args.ticket c.in_ok-list.ensures
+invariant_of-self c =
+    renewed (ending c.self.invariant c.in_ok-list.list c.args.ticket c.in_ok-list.ensures) c.renew.new.list c.renew.ensures

@@ -2,7 +2,7 @@ use Rattle.std.proofs.Common.{ℕ, suc, ◌+◌, ◌<◌, ◌^◌, sym, ◌∙�
 use Rattle.esr_model.specs.Kept.{first_id}
 use Rattle.esr_formats.specs.Roots.{root_of}
 use Rattle.esr_test_lists.specs.Board.{IsBoard}
-use Rattle.esr_test_lists.proofs.Boards.{few_ops, asked_in, accepted}
+use Rattle.esr_test_lists.proofs.Boards.{few_ops, asked_in, accepted, renewed}
 use Rattle.esr_test_lists.proofs.board.Board.snapshot.Goals as goal
 
 pub accept-requires-clause-named : goal.accept-requires-clause-named
@@ -26,5 +26,5 @@ overflow_add-after c =
 
 pub invariant_of-self : goal.invariant_of-self
 invariant_of-self c =
-    subst (λ (drawn : ℕ). IsBoard c.in_ok-list.list (root_of c.self.inside.root) c.self.inside.term (c.self.inside.next.number + drawn) c.self.inside.given c.self.inside.begun) (sym c.from.ensures)
-    (accepted c.self.invariant c.in_ok-list.list c.in_ok-list.accepted c.args.command.now c.requires.askable c.if-self.false (c.in_ok-list.ensures _ (asked_in c.self.invariant)))
+    renewed (subst (λ (drawn : ℕ). IsBoard c.in_ok-list.list (root_of c.self.inside.root) c.self.inside.term (c.self.inside.next.number + drawn) c.self.inside.given c.self.inside.begun) (sym c.from.ensures)
+    (accepted c.self.invariant c.in_ok-list.list c.in_ok-list.accepted c.args.command.now c.requires.askable c.if-self.false (c.in_ok-list.ensures _ (asked_in c.self.invariant)))) c.renew.new.list c.renew.ensures
