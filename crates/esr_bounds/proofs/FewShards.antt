@@ -69,11 +69,14 @@ once_places root (p ∷ shards) h = (
   once_places root shards h.2,
 )
 
+-- the shards whose generations go
+pub pruned_few : (places : List (ℕ × ℕ)) (root : RootData) (shards : List PrunedShard) → RootIn places root → AreOfRoot root shards → length shards ≤ length places
+pruned_few places root shards h of_root =
+    subst (λ (n : ℕ). n ≤ length places) (length-map shards plan_place)
+    (few_once (map plan_place shards) places (once_places root shards of_root) (λ x had. let r = Has-mapped plan_place shards x had in subst (Has places) r.2 (plan_places places root shards h of_root r.0 r.1)))
+
 pub plan_few : (places : List (ℕ × ℕ)) (root : RootData) (uuids : List ℕ) (s : Swap) → RootIn places root → IsPlan root uuids s → length s.own ≤ length places
-plan_few places root uuids s h p =
-    both (length s.own) (length p.shards) (length places) p.few
-    (subst (λ (n : ℕ). n ≤ length places) (length-map p.shards plan_place)
-    (few_once (map plan_place p.shards) places (once_places root p.shards p.of_root) (λ x had. let r = Has-mapped plan_place p.shards x had in subst (Has places) r.2 (plan_places places root p.shards h p.of_root r.0 r.1))))
+plan_few places root uuids s h p = both (length s.own) (length p.shards) (length places) p.few (pruned_few places root p.shards h p.of_root)
   where
     both : (a b c : ℕ) → a ≤ b → b ≤ c → a ≤ c
     both a b c q r = let one : a ≤ b = q in let two : b ≤ c = r in omega (arith, one, two)
@@ -96,7 +99,7 @@ length_asked w next (a ∷ indices) =
     ∙ ap (λ (n : ℕ). n + length (all_pending indices (refs_from w (next_by (known_id w a.name) next) indices))) (length_pending a r 0 r.shards ∙ ref_shards a (known_id w a.name) next)
     ∙ ap (λ (n : ℕ). a.shards + n) (length_asked w (next_by (known_id w a.name) next) indices)
 
-length_items : (w : World) (step : Step) → length (asked_items w step) ≡ shards_by step
+pub length_items : (w : World) (step : Step) → length (asked_items w step) ≡ shards_by step
 length_items w (AskStep (Snapshot name indices moment)) = length-map (all_pending indices (refs_from w (suc w.next_id) indices)) (item_of w.next_op None) ∙ length_asked w (suc w.next_id) indices
 length_items w (AskStep (Clone source name names moment (Some taken))) =
     length-map (map copied_shard (places taken.indices)) (item_of w.next_op (Some taken.source)) ∙ length-map (places taken.indices) copied_shard ∙ length_places taken.indices

@@ -30,3 +30,6 @@ pub mod DoomedSeen
 pub mod Closed
 pub mod ListedShards
 pub mod RestoredShards
+pub mod FewIds
+pub mod RootIndices
+pub mod ClonedShards

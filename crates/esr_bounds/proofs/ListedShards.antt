@@ -101,7 +101,7 @@ numbered_in r first (suc n) p (inr h) =
     let high : p.1 < suc first + n = q.2 in
     (q.0, omega (arith, low), omega (arith, high))
 
-places_in : (refs : List IndexRef) (p : IndexRef × ℕ) → Has (places refs) p → Has refs p.0 × (p.1 < p.0.shards)
+pub places_in : (refs : List IndexRef) (p : IndexRef × ℕ) → Has (places refs) p → Has refs p.0 × (p.1 < p.0.shards)
 places_in [] p h = absurd h
 places_in (r ∷ refs) p h = ⊎_elim
     (λ (here : Has (numbered r 0 r.shards) p).

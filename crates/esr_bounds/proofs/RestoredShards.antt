@@ -71,7 +71,16 @@ once_few n most few = subst (λ (k : ℕ). n ≤ k) (sym (once_most most)) (plai
 none_few : (n : ℕ) → 0 ≤ n
 none_few n = omega arith
 
--- ---- shards of fronts
+-- ---- fronts
+
+pub front_heard : (f : Formats) (size : ℕ) (w : World) (log : List Moment) → IsHeard f size w log → (front back : List Moment) → front ++ back ≡ log → IsHeard f size w front
+front_heard f size w log h front back is = record {
+  tracked = h.tracked;
+  readers = h.readers;
+  untouched = h.untouched;
+  legal = (legal_parts f size front back w (subst (IsLegal f size w) (sym is) h.legal)).0;
+  heard = λ m has. h.heard m (subst (λ (l : List Moment). Has l m) is (Has-left front back m has));
+}
 
 shards_front : (front back : List Moment) → shards_in front ≤ shards_in (front ++ back)
 shards_front [] back = none_few (shards_in back)
@@ -80,26 +89,17 @@ shards_front (m ∷ front) back = more (shards_by m.entry.step) (shards_in front
     more : (a b c : ℕ) → b ≤ c → a + b ≤ a + c
     more a b c p = let less : b ≤ c = p in omega (arith, less)
 
+pub most_front : (w : World) (log front back : List Moment) → front ++ back ≡ log → most_shards w front ≤ most_shards w log
+most_front w log front back is =
+    more (length (generation_names w.root.indices)) (shards_in front) (shards_in log) (subst (λ (l : List Moment). shards_in front ≤ shards_in l) is (shards_front front back))
+  where
+    more : (a b c : ℕ) → b ≤ c → a + b ≤ a + c
+    more a b c p = let less : b ≤ c = p in omega (arith, less)
+
 module _ (f : Formats) (size : ℕ) (known : AllKnown f) (laws : StepLaws f size) (masters : MasterLaws f size)
     (began : (v : World) (m : Moment) (o uuid : ℕ) (indices : List IndexRef) → Allowed f size v m → m.entry.reply ≡ AcceptedRestore o uuid indices → RestoreBegan f v m.entry.who m.entry.step o uuid indices m.image) (w : World)
     (log : List Moment) (h : IsHeard f size w log) (told : AreTold log)
     (lawful : (before rest : List Moment) → before ++ rest ≡ log → (now : List Shelved) × Law f (world_from f w before) now) (one_each : IsOneEach w.root.indices) where
-  front_heard : (front back : List Moment) → front ++ back ≡ log → IsHeard f size w front
-  front_heard front back is = record {
-    tracked = h.tracked;
-    readers = h.readers;
-    untouched = h.untouched;
-    legal = (legal_parts f size front back w (subst (IsLegal f size w) (sym is) h.legal)).0;
-    heard = λ m has. h.heard m (subst (λ (l : List Moment). Has l m) is (Has-left front back m has));
-  }
-
-  most_front : (front back : List Moment) → front ++ back ≡ log → most_shards w front ≤ most_shards w log
-  most_front front back is =
-      more (length (generation_names w.root.indices)) (shards_in front) (shards_in log) (subst (λ (l : List Moment). shards_in front ≤ shards_in l) is (shards_front front back))
-    where
-      more : (a b c : ℕ) → b ≤ c → a + b ≤ a + c
-      more a b c p = let less : b ≤ c = p in omega (arith, less)
-
   -- the shards of one that is accepted
   accepted_few : (front back : List Moment) (m : Moment) → front ++ m ∷ back ≡ log → (o uuid : ℕ) (indices : List IndexRef) → m.entry.reply ≡ AcceptedRestore o uuid indices → count_of_shards indices ≤ most_shards w log
   accepted_few front back m is o uuid indices reply =
@@ -108,14 +108,14 @@ module _ (f : Formats) (size : ℕ) (known : AllKnown f) (laws : StepLaws f size
       let now : World = world_from f w front in
       let b = began now m o uuid indices legal.0 reply in
       let law = lawful front (m ∷ back) is in
-      let placed = placed_last f size laws masters known w front (front_heard front (m ∷ back) is) (told_parts front (m ∷ back) (subst AreTold (sym is) told)).0 one_each in
+      let placed = placed_last f size laws masters known w front (front_heard f size w log h front (m ∷ back) is) (told_parts front (m ∷ back) (subst AreTold (sym is) told)).0 one_each in
       let among : List (ℕ × ℕ) = places_of (first_places w.root) (all_items f w front) in
       let few : count_of_shards indices ≤ length among =
       shards_few among indices b.accepts.indices_of.within.apart
       (λ r k has below.
       let g = listed_generations f now law.0 law.1 uuid (b.accepts.listed.0, b.accepts.listed.1, b.accepts.listed.3) indices m.image image.0 image.1 b.accepts.indices_of r k has below in
       by_generation among now.root placed.root r.id k g.0 g.1) in
-      both (count_of_shards indices) (length among) (most_shards w front) (most_shards w log) few (length_of f w front) (most_front front (m ∷ back) is)
+      both (count_of_shards indices) (length among) (most_shards w front) (most_shards w log) few (length_of f w front) (most_front w log front (m ∷ back) is)
     where
       both : (a b c d : ℕ) → a ≤ b → b ≡ c → c ≤ d → a ≤ d
       both a b c d p q r =

@@ -117,7 +117,7 @@ module _ (f : Formats) (w : World) (reads : ReadTracked w) where
 
     by_command : (who : ℕ) (command : Asked) (reply : Reply) (image : Option Image) → Allows f size w who (AskStep command) reply image → AskedAt who command reply image
     by_command who (Restore name place) reply image (allowed.AskingRestore n p rep im h same) v now s had = by_restore who name place reply image h v now s had
-    by_command who (Restore name place) reply image (allowed.Cleaning c d x im recorded there clean same) v now s had = absurd (true≢false (sym recorded))
+    by_command who (Restore name place) reply image (allowed.Cleaning c d x im recorded untaken there clean same) v now s had = absurd (true≢false (sym recorded))
     by_command who (Snapshot name indices moment) reply image a v now s had =
         absurd (none_there v (subst (λ (m : FinMap nat_cmp Restoring). fin.get m w.next_op ≡ Some v) (goes_answered f w room who (AskStep (Snapshot name indices moment)) reply image tt).restores now))
     by_command who (Clone source name indices moment taken) reply image a v now s had =

@@ -96,7 +96,7 @@ done_in : (results : List ShardResult) (index shard g : ℕ) → done_at results
 done_in [] index shard g is = absurd (none-some g is)
 done_in (r ∷ results) index shard g is = done_or r results index shard g is (λ e. done_in results index shard g e)
 
-abbrev fresh_index : SnapInfo → List ShardResult → IndexRef → RootIndex
+abbrev pub fresh_index : SnapInfo → List ShardResult → IndexRef → RootIndex
 fresh_index info results r = record { name = r.name; id = r.id; snapshots = info.uuid ∷ []; generations = merged results r.id 0 [] r.shards }
 
 module _ (places : List (ℕ × ℕ)) (root : RootData) (info : SnapInfo) (results : List ShardResult) (h : RootIn places root) (done : (r : ShardResult) → Has results r → Has places (r.index, r.shard)) where

@@ -382,19 +382,7 @@ op_weight : (f : Formats) (size terms : ℕ) (w : World) (step : Step) → total
 op_weight f size terms w (AskStep (Snapshot name indices moment)) =
     ap (λ n. (terms * suc (most_of_final n) + 0) + 1 * (terms * suc most_of_drop)) (length_refs f size w (suc w.next_id) indices) ∙ spread terms (suc (most_of_final (length indices))) (suc most_of_drop)
 op_weight f size terms w (AskStep (Clone source name names moment (Some taken))) = spread terms (suc (most_of_final (length taken.indices))) (suc most_of_drop)
-op_weight f size terms w (AskStep (Clone source name names moment None)) = once_more (terms * suc most_of_drop)
-  where
-    once_more : (n : ℕ) → 0 + 1 * n ≡ n
-    once_more n = omega arith
-op_weight f size terms w (AskStep (DeleteSnapshots names)) = once_more (terms * suc most_of_drop)
-  where
-    once_more : (n : ℕ) → 0 + 1 * n ≡ n
-    once_more n = omega arith
-op_weight f size terms w (AskStep (Restore name place)) = once_more (terms * suc most_of_drop)
-  where
-    once_more : (n : ℕ) → 0 + 1 * n ≡ n
-    once_more n = omega arith
-op_weight f size terms w (AskStep Cleanup) = once_more (terms * suc most_of_drop)
+op_weight f size terms w (AskStep command) = once_more (terms * suc most_of_drop)
   where
     once_more : (n : ℕ) → 0 + 1 * n ≡ n
     once_more n = omega arith

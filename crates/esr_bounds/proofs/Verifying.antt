@@ -235,7 +235,7 @@ module _ (f : Formats) (size : ℕ) (w : World) where
   ask_heard who command reply image (allowed.AskingClone source name names moment taken rep im h same) = clone_heard source name names moment taken reply image h
   ask_heard who command reply image (allowed.AskingDelete names rep im h same) = delete_heard names reply h
   ask_heard who command reply image (allowed.AskingCleanup rep im h same) = cleanup_heard reply h
-  ask_heard who command reply image (allowed.Cleaning c d x im recorded there clean same) = refl
+  ask_heard who command reply image (allowed.Cleaning c d x im recorded untaken there clean same) = refl
   ask_heard who command reply image (allowed.Used name indices moment uuid im clear is same) = refl
   ask_heard who command reply image (allowed.Full name indices moment im clear unused full same) = refl
   ask_heard who command reply image (allowed.AskSpent name indices moment im clear unused room spent same) = refl

@@ -5,3 +5,6 @@ pub mod Work
 pub mod Clients
 pub mod Laws
 pub mod Others
+pub mod Clones
+pub mod Counts
+pub mod CountsMore

@@ -1,13 +1,14 @@
 //! How many steps legal histories make at most: laws over definitions alone.
 #![tactic(auto)]
 
-ghost use Rattle.std.specs.Prelude.{◌≡◌, ℕ, ◌+◌, ◌*◌, ◌≤◌, true, List, length, Option, Some};
+ghost use Rattle.std.specs.Prelude.{◌≡◌, ℕ, suc, ◌+◌, ◌*◌, ◌^◌, ◌≤◌, true, List, [], ◌∷◌, ◌++◌, length, Option, Some};
 ghost use Rattle.std.specs.FinMap as fin;
 ghost use Rattle.esr_model.specs.Values.{SnapInfo, ShardResult, IsOneEach, Formats};
 ghost use Rattle.esr_model.specs.Shelf.{Command, Shelved};
 ghost use Rattle.esr_model.specs.Image.{Image};
 ghost use Rattle.esr_model.specs.Kept.{Kept};
 ghost use Rattle.esr_law.specs.Reach.{RefusesUnlisted};
+ghost use Rattle.esr_law.specs.Spent.{ids_in};
 ghost use Rattle.esr_core.specs.World.{World, Opened, Reader, Shard, Finalize, Deleting, Drop, Swap, Ticket};
 ghost use Rattle.esr_core.specs.Entry.{Moment};
 ghost use Rattle.esr_core.specs.Restores.{AreOnce};
@@ -16,11 +17,12 @@ ghost use Rattle.esr_core.specs.Tracked.{Tracked};
 ghost use Rattle.esr_core.specs.ReadTracked.{ReadTracked};
 ghost use Rattle.esr_core.specs.History.{world_from, IsLegal, AllKnown, AreTold};
 ghost use Rattle.esr_bounds.specs.Keys.{keys, made_by, IsUntouched, IsHeard};
-ghost use Rattle.esr_bounds.specs.Work.{asks_in, restores_in, idle_in, most_steps};
+ghost use Rattle.esr_bounds.specs.Work.{work_of, asks_in, restores_in, idle_in, most_steps};
 ghost use Rattle.esr_bounds.specs.Clients.{draws_in, looks_in, ends_in, tests_in, anew_in, fetches_in, most_tests, most_of_client};
-ghost use Rattle.esr_bounds.specs.Units.{IsFinalize, IsDropped, OneOf};
+ghost use Rattle.esr_bounds.specs.Units.{shards_in, IsFinalize, IsDropped, OneOf};
 ghost use Rattle.esr_bounds.specs.Laws.{StepLaws, MasterLaws};
 ghost use Rattle.esr_bounds.specs.Most.{IsDelete, most_of_shard, most_of_final, most_of_drop};
+ghost use Rattle.esr_bounds.specs.Clones.{bare_steps, indices_by, sum_of, most_asked_shards, most_asked_work};
 ghost use Rattle.esr_bounds.specs.Others.{most_of_delete, most_of_restore, most_told, most_asked, most_by_shards, most_shards, most_blobs, most_writes, writes_in, lost_by, most_of_all};
 
 /// The core's laws of a step and of the entries of a ticket.
@@ -263,4 +265,27 @@ pub fn no_restore_has_more_shards_than_there_are()
     changes_are_lawful();
     esr_core::answers_tell_their_steps();
     esr_core::each_history_is_lawful();
+}
+
+/// From a kept container that tells, no clone has more shards and indices than there are: those of the first root, and those of the snapshots that the
+/// history asks for. So its commands, as lines ask for them, bound the shards that it asks for, and the steps of its units.
+pub fn no_clone_has_more_shards_than_there_are()
+    ensures shards { (f : Formats) (part_size : ℕ) (image : Image) (shelf : List Shelved) (w : World) (log : List Moment) → Kept f image shelf → Opened f image w → IsHeard f part_size w log → AllKnown f → AreTold log
+        → shards_in log ≤ most_asked_shards (asks_in log) w (bare_steps log) }
+    ensures work { (f : Formats) (part_size terms : ℕ) (image : Image) (shelf : List Shelved) (w : World) (log : List Moment) → Kept f image shelf → Opened f image w → IsHeard f part_size w log → AllKnown f → AreTold log
+        → work_of f part_size terms log ≤ most_asked_work f part_size terms (asks_in log) w (bare_steps log) }
+{
+    steps_are_lawful();
+    changes_are_lawful();
+    esr_core::each_history_is_lawful();
+}
+
+/// Where the container tells, a history asks for few ids: each step for no more than 2^32 and one for each shard that there is before the last step, and
+/// a snapshot besides for one for each of its indices.
+pub fn no_history_asks_for_many_ids()
+    ensures { (f : Formats) (part_size : ℕ) (image : Image) (w : World) (log : List Moment) (last : Moment) → Opened f image w → IsHeard f part_size w (log ++ last ∷ []) → AllKnown f → AreTold (log ++ last ∷ [])
+        → ids_in (log ++ last ∷ []) ≤ suc (length log) * (2 ^ 32 + most_shards w log) + sum_of indices_by (bare_steps (log ++ last ∷ [])) }
+{
+    steps_are_lawful();
+    changes_are_lawful();
 }

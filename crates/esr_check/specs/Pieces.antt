@@ -61,6 +61,12 @@ pub record IsShardOfRoot (s : Start) (log : List Moment) (root : RootData) (info
 abbrev pub HasHeld : Start → Caller → ℕ → ℕ → ℕ → ShardFiles → Type 0
 HasHeld s c index shard generation held = ReadAs s c (ShardIndex index shard generation) (formats_of s).shard_index held
 
+-- the index of a shard was read, and lists this file
+pub record HasEntry (s : Start) (c : Caller) (index shard generation : ℕ) (e : FileEntry) : Type 0 where
+  pub held : ShardFiles
+  pub read : HasHeld s c index shard generation held
+  pub listed : Has held.files e
+
 -- all parts of a file were read, and it has the stated length and digest, cut at the stated part size
 pub record HasFile (s : Start) (c : Caller) (index shard : ℕ) (e : FileEntry) : Type 0 where
   pub found : (name : BlobName) → Has (part_names index shard e) name → Has c.found name

@@ -1,6 +1,5 @@
 //! The files of a shard: each has the stated length and digest, cut at the stated part size.
 ghost use Rattle.std.specs.Prelude.{◌≡◌, ◌<◌, true, map, length, IfErr, OnOk};
-ghost use Rattle.esr_model.specs.Values.{Has};
 ghost use Rattle.esr_formats.specs.Infos.{info_of_code};
 ghost use Rattle.esr_formats.specs.Roots.{root_of};
 ghost use Rattle.esr_formats.specs.Shards.{entry_of, shard_index_of};
@@ -8,7 +7,7 @@ ghost use Rattle.esr_shardidx.specs.Entries.{IsEntry};
 ghost use Rattle.esr_desk.specs.Own.{caller_of};
 ghost use Rattle.esr_check.specs.First.{TellsOne, FirstOfFile, FirstOfFiles};
 ghost use Rattle.esr_check.specs.Names.{IsOfFile, IsPieceOf, AreUnfetched};
-ghost use Rattle.esr_check.specs.Pieces.{IsShardOfRoot, HasHeld, HasFile, HasFiles};
+ghost use Rattle.esr_check.specs.Pieces.{IsShardOfRoot, HasHeld, HasEntry, HasFile, HasFiles};
 ghost use Rattle.esr_check.specs.Trouble.{Shown, Judged};
 ghost use Rattle.esr_check.specs.Went.{IsSoFar, Went};
 
@@ -53,15 +52,13 @@ fn check_file<Q: Client>(
     desk: &mut Q,
     count: &mut u64,
     shard: ShardOfRoot<'_>,
-    held: &ShardIndex,
     entry: &FileEntry,
     buf: &mut [u8],
 ) -> Result<(), Trouble<Q::Stage, Q::Fetch>>
     requires alone { Q.start.alone ≡ true }
     requires shard { IsShardOfRoot Q.start (Q.seen desk.old) (root_of shard.root.now) (map info_of_code shard.infos.now) shard.at.index.number shard.at.number shard.generation.number }
-    requires held { HasHeld Q.start (caller_of Q.start (Q.seen desk.old)) shard.at.index.number shard.at.number shard.generation.number (shard_index_of held.now) }
     requires entry { IsEntry entry.now }
-    requires listed { Has (shard_index_of held.now).files (entry_of entry.now) }
+    requires listed { HasEntry Q.start (caller_of Q.start (Q.seen desk.old)) shard.at.index.number shard.at.number shard.generation.number (entry_of entry.now) }
     requires buffer { 0 < length buf.old }
     requires new { AreUnfetched (caller_of Q.start (Q.seen desk.old)) (IsOfFile shard.at.index.number shard.at.number entry.now.name.number) }
     requires so_far { IsSoFar Q.start (Q.seen desk.old) count.old }
@@ -73,7 +70,7 @@ fn check_file<Q: Client>(
     ensures went { Went Q.start (Q.seen desk.old) (Q.seen desk.new) (IsOfFile shard.entry.at.index.number shard.entry.at.number entry.now.name.number) }
 {
     let mut hasher = Hasher::start();
-    let is_exact = read_parts(alloc, desk, count, shard, held, entry, &mut hasher, buf)?;
+    let is_exact = read_parts(alloc, desk, count, shard, entry, &mut hasher, buf)?;
     if let Some(why) = judge(shard.at, shard.generation, entry, hasher.end(), is_exact) {
         return Err(Trouble::Found { why });
     }
@@ -103,7 +100,7 @@ pub fn check_files<Q: Client>(
     ensures went { Went Q.start (Q.seen desk.old) (Q.seen desk.new) (IsPieceOf shard.entry.at.index.number shard.entry.at.number) }
 {
     for entry in held.files() {
-        check_file(alloc, desk, count, shard, held, entry, buf)?;
+        check_file(alloc, desk, count, shard, entry, buf)?;
     }
     Ok(())
 }

@@ -1,19 +1,18 @@
 //! The parts of a file, read back one after another for the print of the file.
 ghost use Rattle.std.specs.Prelude.{◌≡◌, ◌+◌, ◌<◌, ◌^◌, true, [], map, length, IfOk, IfErr};
-ghost use Rattle.esr_model.specs.Values.{Has};
 ghost use Rattle.esr_hash.specs.Fed.{fed_count, HasFed};
 ghost use Rattle.esr_names.specs.Layout.{IsName};
 ghost use Rattle.esr_formats.specs.Names.{name_of};
 ghost use Rattle.esr_formats.specs.Infos.{info_of_code};
 ghost use Rattle.esr_formats.specs.Roots.{root_of};
-ghost use Rattle.esr_formats.specs.Shards.{entry_of, shard_index_of};
+ghost use Rattle.esr_formats.specs.Shards.{entry_of};
 ghost use Rattle.esr_shardidx.specs.Entries.{IsEntry};
 ghost use Rattle.esr_desk.specs.Own.{caller_of};
 ghost use Rattle.esr_desk.specs.Check.Conditions.{CanCheck};
 ghost use Rattle.esr_check.specs.First.{TellsOne, FirstOfFile};
 ghost use Rattle.esr_check.specs.Names.{Just, IsOfFile, AreUnfetched};
 ghost use Rattle.esr_check.specs.Parts.{ReadPart, ReadParts};
-ghost use Rattle.esr_check.specs.Pieces.{IsShardOfRoot, HasHeld};
+ghost use Rattle.esr_check.specs.Pieces.{IsShardOfRoot, HasEntry};
 ghost use Rattle.esr_check.specs.Trouble.{Shown};
 ghost use Rattle.esr_check.specs.Went.{IsSoFar, Went};
 
@@ -23,7 +22,7 @@ use esr_desk::Client;
 use esr_hash::Hasher;
 use esr_names::BlobName;
 use esr_parts::{Extent, hash_back, part_plan};
-use esr_shardidx::{FileEntry, ShardIndex, part_count, part_name};
+use esr_shardidx::{FileEntry, part_count, part_name};
 use esr_unit::Trouble;
 use std::alloc::Global;
 
@@ -65,16 +64,14 @@ pub fn read_parts<Q: Client>(
     desk: &mut Q,
     count: &mut u64,
     shard: ShardOfRoot<'_>,
-    held: &ShardIndex,
     entry: &FileEntry,
     hasher: &mut Hasher,
     buf: &mut [u8],
 ) -> Result<bool, Trouble<Q::Stage, Q::Fetch>>
     requires alone { Q.start.alone ≡ true }
     requires shard { IsShardOfRoot Q.start (Q.seen desk.old) (root_of shard.root.now) (map info_of_code shard.infos.now) shard.at.index.number shard.at.number shard.generation.number }
-    requires held { HasHeld Q.start (caller_of Q.start (Q.seen desk.old)) shard.at.index.number shard.at.number shard.generation.number (shard_index_of held.now) }
     requires entry { IsEntry entry.now }
-    requires listed { Has (shard_index_of held.now).files (entry_of entry.now) }
+    requires listed { HasEntry Q.start (caller_of Q.start (Q.seen desk.old)) shard.at.index.number shard.at.number shard.generation.number (entry_of entry.now) }
     requires fresh { HasFed hasher.old [] }
     requires buffer { 0 < length buf.old }
     requires new { AreUnfetched (caller_of Q.start (Q.seen desk.old)) (IsOfFile shard.at.index.number shard.at.number entry.now.name.number) }

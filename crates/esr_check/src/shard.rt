@@ -112,38 +112,44 @@ fn check_shard<Q: Client>(
     Ok(())
 }
 
-/// The same, where the shard has a generation.
+/// A shard of the safe root, and its generation if it has one.
+#[derive(Clone, Copy)]
+struct Place {
+    at: ShardId,
+    generation: Option<Id>,
+}
+
+/// A shard of the safe root, and all that it has if it has a generation.
 fn check_place<Q: Client>(
     alloc: Global,
     desk: &mut Q,
     count: &mut u64,
     root: &RootData,
     infos: &[SnapInfo],
-    at: ShardId,
-    generation: Option<Id>,
+    place: Place,
     buf: &mut [u8],
 ) -> Result<(), Trouble<Q::Stage, Q::Fetch>>
     requires alone { Q.start.alone ≡ true }
     requires root { HasSafe Q.start (Q.seen desk.old) (root_of root.now) }
     requires infos { HasInfos Q.start (caller_of Q.start (Q.seen desk.old)) (root_of root.now) (map info_of_code infos.now) }
-    requires few { at.number < 1024 }
-    requires generation { (g : ℕ) → option_map number_of generation ≡ Some g → Generation (root_of root.now) at.index.number at.number g }
+    requires few { place.at.number < 1024 }
+    requires generation { (g : ℕ) → option_map number_of place.generation ≡ Some g → Generation (root_of root.now) place.at.index.number place.at.number g }
     requires buffer { 0 < length buf.old }
-    requires new { AreUnfetched (caller_of Q.start (Q.seen desk.old)) (IsOfShard at.index.number at.number) }
+    requires new { AreUnfetched (caller_of Q.start (Q.seen desk.old)) (IsOfShard place.at.index.number place.at.number) }
     requires so_far { IsSoFar Q.start (Q.seen desk.old) count.old }
     ensures buffer { length buf.new ≡ length buf.old }
-    ensures place { OnOk result (HasPlace Q.start (caller_of Q.start (Q.seen desk.new)) (root_of root.now) (map info_of_code infos.now) at.index.number at.number (option_map number_of generation)) }
+    ensures place { OnOk result (HasPlace Q.start (caller_of Q.start (Q.seen desk.new)) (root_of root.now) (map info_of_code infos.now) place.at.index.number place.at.number (option_map number_of place.generation)) }
     ensures so_far { OnOk result (IsSoFar Q.start (Q.seen desk.new) count.new) }
     ensures trouble { IfErr result (Shown Q.Fetch.faults Q.start (Q.seen desk.new)) }
-    ensures first { IfErr result (TellsOne (FirstOfPlace Q.start (caller_of Q.start (Q.seen desk.new)) (root_of root.now) (map info_of_code infos.now) at.index.number at.number (option_map number_of generation))) }
-    ensures went { Went Q.start (Q.seen desk.old) (Q.seen desk.new) (IsOfShard at.index.number at.number) }
+    ensures first { IfErr result (TellsOne (FirstOfPlace Q.start (caller_of Q.start (Q.seen desk.new)) (root_of root.now) (map info_of_code infos.now) place.at.index.number place.at.number (option_map number_of place.generation))) }
+    ensures went { Went Q.start (Q.seen desk.old) (Q.seen desk.new) (IsOfShard place.at.index.number place.at.number) }
 {
-    match generation {
+    match place.generation {
         Some(generation) => {
             let shard = ShardOfRoot {
                 root,
                 infos,
-                at,
+                at: place.at,
                 generation,
             };
             check_shard(alloc, desk, count, shard, buf)
@@ -181,7 +187,11 @@ pub fn check_shards<Q: Client>(
             index: index.id,
             number: number as u32,
         };
-        check_place(alloc, desk, count, root, infos, at, *generation, buf)?;
+        let place = Place {
+            at,
+            generation: *generation,
+        };
+        check_place(alloc, desk, count, root, infos, place, buf)?;
     }
     Ok(())
 }

@@ -5,7 +5,7 @@ use esr_depot::Depot;
 use esr_dirdepot::DirDepot;
 use esr_dirsource::{DirSources, DirTargets};
 use esr_meter::{Meter, MeterOut, MeterSources, MeterTargets};
-use esr_run::run;
+use esr_run::{Host, run};
 use esr_script::{Words, repo_place};
 use esr_seq::{Seq, Text};
 use esr_source::{NoGate, Out, Sources, StdLines, StdOut, Targets};
@@ -70,9 +70,13 @@ where
 {
     let mut lines = StdLines::new(rt.stdin());
     let (alloc, moment) = (rt.alloc(), moment_of(rt));
-    let ended = run(
-        threads, alloc, words, &mut lines, depot, sources, targets, &NoGate, moment, out,
-    );
+    let host = Host {
+        sources,
+        targets,
+        gate: &NoGate,
+        moment,
+    };
+    let ended = run(threads, alloc, words, &mut lines, depot, &host, out);
     ended.status
 }
 

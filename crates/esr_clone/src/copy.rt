@@ -29,36 +29,42 @@ fn sum_of(entries: &[FileEntry]) -> u64
     sum
 }
 
+/// What a unit is of: its ticket, the shard, and the clone's uuid.
+#[derive(Clone, Copy)]
+pub struct Job {
+    pub ticket: u64,
+    pub at: ShardId,
+    pub uuid: Id,
+}
+
 /// Writes the files of the source under the clone's uuid, adds them to the index under the id that was drawn, and ends the
 /// ticket.
 pub fn copy<Q: Desk>(
     alloc: Global,
     desk: &mut Q,
-    ticket: u64,
-    at: ShardId,
-    uuid: Id,
+    job: Job,
     base: &ShardIndex,
     snap: ShardSnap,
     first: Id,
 ) -> Result<(), Trouble<Q::Stage, Q::Fetch>>
-    requires mine { HasTaken (Q.calls desk.old) ticket }
-    requires read { HasRead Q.start at.index.number at.number uuid base.now snap first.number (ticket_of Q.start (Q.seen desk.old) ticket) }
-    requires few { at.number < 1024 }
-    requires tells { TellsAll Q.start (Q.seen desk.old) ticket }
-    ensures ok { OnOk result (HasDone Q.start (Q.seen desk.old) (Q.seen desk.new) ticket) }
-    ensures trouble { IfErr result (Shown (evidence Q.Stage.faults Q.Fetch.faults Q.Shard.faults Q.Target.faults Q.Shard.told Q.Target.told) 0 (Some []) Q.start (Q.seen desk.new) ticket) }
-    ensures went { IfErr result (λ e. Went Q.start (Q.seen desk.old) (Q.seen desk.new) ticket) }
-    ensures grew { GrewBy Q.start ticket (Q.seen desk.old) (Q.seen desk.new) }
+    requires mine { HasTaken (Q.calls desk.old) job.ticket }
+    requires read { HasRead Q.start job.at.index.number job.at.number job.uuid base.now snap first.number (ticket_of Q.start (Q.seen desk.old) job.ticket) }
+    requires few { job.at.number < 1024 }
+    requires tells { TellsAll Q.start (Q.seen desk.old) job.ticket }
+    ensures ok { OnOk result (HasDone Q.start (Q.seen desk.old) (Q.seen desk.new) job.ticket) }
+    ensures trouble { IfErr result (Shown (evidence Q.Stage.faults Q.Fetch.faults Q.Shard.faults Q.Target.faults Q.Shard.told Q.Target.told) 0 (Some []) Q.start (Q.seen desk.new) job.ticket) }
+    ensures went { IfErr result (λ e. Went Q.start (Q.seen desk.old) (Q.seen desk.new) job.ticket) }
+    ensures grew { GrewBy Q.start job.ticket (Q.seen desk.old) (Q.seen desk.new) }
     ensures calls { Q.calls desk.new ≡ Q.calls desk.old }
 {
     let files = snap.files();
     let outcome = ShardResult {
-        shard: at,
+        shard: job.at,
         generation: first,
         files: files.len() as u64,
         bytes: sum_of(files),
     };
-    let own = snap.under(uuid);
+    let own = snap.under(job.uuid);
     let index = base.with_snap(alloc, &own)?;
-    end_shard(alloc, desk, ticket, &own, &index, &outcome)
+    end_shard(alloc, desk, job.ticket, &own, &index, &outcome)
 }

@@ -12,7 +12,7 @@ ghost use Rattle.esr_upload.specs.Trouble.{Shown};
 ghost use Rattle.esr_upload.specs.Worked.{Went};
 ghost use Rattle.esr_clone.specs.Copied.{IsOfClone, IsCopy};
 
-use crate::copy::copy;
+use crate::copy::{Job, copy};
 use crate::snap::fetch_snap;
 use esr_desk::{Desk, Hand, Unit, UnitRefusal};
 use esr_names::{Id, ShardId};
@@ -46,7 +46,8 @@ fn work<Q: Desk>(
     let snap = fetch_snap(alloc, desk, ticket, at, source)?;
     let index = base_of(alloc, desk, ticket, at, uuid, base)?;
     let first = desk.draw(alloc, ticket, 1)?;
-    copy(alloc, desk, ticket, at, uuid, &index, snap, first)?;
+    let job = Job { ticket, at, uuid };
+    copy(alloc, desk, job, &index, snap, first)?;
     Ok(())
 }
 

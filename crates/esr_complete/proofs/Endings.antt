@@ -12,27 +12,16 @@ use Rattle.esr_script.specs.declared.item.ScriptLine.{ScriptLine}
 use Rattle.esr_report.specs.Replies.{Reply, Refused, Failed, Deposed, fails_swap, has_fallen, wait_reply, is_short, end_reply, replies}
 use Rattle.esr_report.specs.Status.{is_deposed, damaged_name, first_damaged, is_spent, are_ok, AllOk, SomeRefused, SwapFailed, ending_by, ending}
 use Rattle.esr_quiet.specs.Refusals.{IsByRule}
+use Rattle.esr_quiet.specs.RuleLaws.{never_rule}
 use Rattle.esr_complete.specs.Lines.{entries_of}
 use Rattle.esr_complete.specs.Answers.{IsAnswer, AreAnsweredIn, AreAnswered, EndsWell}
 use Rattle.esr_complete.proofs.Facts.{Fact}
 
 -- no rule says that a number is spent
 unspent_rule : (command : Asked) (refusal : Refusal) → IsByRule command refusal → is_spent (Refused refusal) ≡ false
-unspent_rule (Snapshot name indices moment) (GenerationsSpent pending) rule = absurd rule
-unspent_rule (Snapshot name indices moment) (TermsSpent term) rule = absurd rule
-unspent_rule (Snapshot name indices moment) (IdsSpent next) rule = absurd rule
-unspent_rule (Restore name place) (GenerationsSpent pending) rule = absurd rule
-unspent_rule (Restore name place) (TermsSpent term) rule = absurd rule
-unspent_rule (Restore name place) (IdsSpent next) rule = absurd rule
-unspent_rule (Clone source name names moment taken) (GenerationsSpent pending) rule = absurd rule
-unspent_rule (Clone source name names moment taken) (TermsSpent term) rule = absurd rule
-unspent_rule (Clone source name names moment taken) (IdsSpent next) rule = absurd rule
-unspent_rule (DeleteSnapshots names) (GenerationsSpent pending) rule = absurd rule
-unspent_rule (DeleteSnapshots names) (TermsSpent term) rule = absurd rule
-unspent_rule (DeleteSnapshots names) (IdsSpent next) rule = absurd rule
-unspent_rule Cleanup (GenerationsSpent pending) rule = absurd rule
-unspent_rule Cleanup (TermsSpent term) rule = absurd rule
-unspent_rule Cleanup (IdsSpent next) rule = absurd rule
+unspent_rule command (GenerationsSpent pending) rule = absurd (never_rule command (GenerationsSpent pending) refl rule)
+unspent_rule command (TermsSpent term) rule = absurd (never_rule command (TermsSpent term) refl rule)
+unspent_rule command (IdsSpent next) rule = absurd (never_rule command (IdsSpent next) refl rule)
 unspent_rule command refusal rule = refl
 
 -- a reply that ends no run

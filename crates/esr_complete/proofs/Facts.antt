@@ -1,5 +1,5 @@
 -- What each entry of a history where nothing fails answers to a line.
-use Rattle.std.proofs.Common.{◌≡◌, ◌⊎◌, ◌||◌, ◌&&◌, ◌==◌, ℕ, Bool, true, false, true≢false, List, [], ◌∷◌, ◌++◌, Option, Some, None, refl, sym, ap, ◌∙◌, subst, inl, inr}
+use Rattle.std.proofs.Common.{◌≡◌, ◌⊎◌, ◌&&◌, ◌==◌, ℕ, Bool, true, false, true≢false, List, [], ◌∷◌, ◌++◌, Option, Some, None, refl, sym, ap, ◌∙◌, subst, inl, inr}
 use Rattle.std.proofs.lemmas.Option.{same_Some}
 use Rattle.std.proofs.lemmas.Bool.{cond-true, false_from_ne_true}
 use Rattle.esr_model.specs.Values.{Bytes, Has}
@@ -13,14 +13,15 @@ use Rattle.esr_script.specs.declared.item.Item.{Item}
 use Rattle.esr_script.specs.declared.item.Item.TheVariants as items
 use Rattle.esr_script.specs.declared.item.ScriptLine.{ScriptLine}
 use Rattle.esr_report.specs.Cleaned.{is_cleanup_ticket}
-use Rattle.esr_report.specs.Replies.{Reply, Deleted, Cleaned, Refused, refused_reply, name_by, name_of_op, has_name, fails_swap, has_fallen, deposed_by, end_of_op, restore_reply, ask_reply, look_reply, is_election_step, is_election, election_reply}
+use Rattle.esr_report.specs.Replies.{Reply, Deleted, Cleaned, Refused, refused_reply, name_by, name_of_op, names_it, fails_swap, has_fallen, deposed_by, end_of_op, restore_reply, ask_reply, look_reply, is_election_step, is_election, election_reply}
 use Rattle.esr_report.specs.Aborts.{accepted_by}
 use Rattle.esr_desk.specs.Start.{Start, world_of}
 use Rattle.esr_quiet.specs.Refusals.{IsByRule, IsOfCleanup, IsOfRule, IsOfTerm, AreByRule}
+use Rattle.esr_quiet.specs.RuleLaws.{never_rule}
 use Rattle.esr_quiet.specs.Smooth.{IsSmooth, NoneFailed, NoneUndeleted, NoneUnrestored}
 use Rattle.esr_complete.specs.Lines.{entries_of}
 use Rattle.esr_complete.specs.Answers.{IsIdle, IsDeletedBy, IsCleaningBy, IsAnswer}
-use Rattle.esr_core.specs.Laws.Tests.{same_one, same_number}
+use Rattle.esr_core.specs.Laws.Tests.{same_number}
 use Rattle.esr_model.specs.Lists.{Has-mapped}
 use Rattle.esr_complete.proofs.Tickets.{is_cleanup_op}
 use Rattle.esr_complete.proofs.OpEnds.{IsCalm, AreCalmIn, IsPruned, IsSettled, IsDropped, IsOver, IsOverBy, IsOfKind, WasAborted, IsEnded, EndsIn, aborted_in, end_found, settled_in, over_found, prune_deleted, drop_cleaned}
@@ -59,30 +60,14 @@ pub record Fact (script : List ScriptLine) (all : List Entry) (e : Entry) : Type
   pub elected : (before : List ScriptLine) → is_election e ≡ true → IsAnswerOf script before items.Failover (election_reply e.reply)
   pub cleaning : (front back : List Entry) → all ≡ front ++ e ∷ back → IsAskedIn front e.reply
 
--- no rule is a failure of the container
-no_fault_rule : (command : Asked) → IsByRule command DepotFault → ⊥
-no_fault_rule (Snapshot name indices moment) rule = rule
-no_fault_rule (Restore name place) rule = rule
-no_fault_rule (Clone source name names moment taken) rule = rule
-no_fault_rule (DeleteSnapshots names) rule = rule
-no_fault_rule Cleanup rule = rule
-
--- no rule says that a record swap had failed
-no_down_rule : (command : Asked) (place : ℕ) → IsByRule command (DeposedAt place) → ⊥
-no_down_rule (Snapshot name indices moment) place rule = rule
-no_down_rule (Restore name below) place rule = rule
-no_down_rule (Clone source name names moment taken) place rule = rule
-no_down_rule (DeleteSnapshots names) place rule = rule
-no_down_rule Cleanup place rule = rule
-
 -- what a rule refused is answered so
 ruled_reply : (command : Asked) (refusal : Refusal) → IsByRule command refusal → refused_reply refusal ≡ Refused refusal
-ruled_reply command DepotFault rule = absurd (no_fault_rule command rule)
-ruled_reply command (DeposedAt place) rule = absurd (no_down_rule command place rule)
+ruled_reply command DepotFault rule = absurd (never_rule command DepotFault refl rule)
+ruled_reply command (DeposedAt place) rule = absurd (never_rule command (DeposedAt place) refl rule)
 ruled_reply command refusal rule = refl
 
 unfallen_by : (reply : entry.Reply) (step : Step) → IsCalm (Unit {0}) reply step → fails_swap step reply ≡ false
-unfallen_by (entry.Refused DepotFault) (AskStep command) calm = absurd (no_fault_rule command calm)
+unfallen_by (entry.Refused DepotFault) (AskStep command) calm = absurd (never_rule command DepotFault refl calm)
 unfallen_by (entry.Refused DepotFault) step calm = absurd calm
 unfallen_by reply step calm = refl
 
@@ -90,22 +75,17 @@ unfallen_by reply step calm = refl
 
 -- what is asked of deletes are lines of the script
 abbrev pub AsksAll : List ScriptLine → List Entry → Type 0
-AsksAll script all = (e : Entry) (names : List Bytes) → Has all e → e.step ≡ AskStep (DeleteSnapshots names) → (line : ScriptLine) × Has script line × (line.item ≡ items.Delete names)
+AsksAll script all = (e : Entry) (command : Asked) (name : Bytes) → Has all e → e.step ≡ AskStep command → names_it command name ≡ true → IsDeletedBy script name
 
 -- the snapshot or the clone of each that was accepted was made or aborted
 abbrev AreEnded : List Entry → Step → entry.Reply → Type 0
 AreEnded all step reply = (o : ℕ) → accepted_by step reply ≡ Some o → (name : Bytes) × (name_by o step reply ≡ Some name) × (name_of_op all o ≡ Some name) × IsEnded all o (end_of_op all o [] all)
 
-has_has : (names : List Bytes) (name : Bytes) → has_name names name ≡ true → Has names name
-has_has [] name e = absurd (true≢false (sym e))
-has_has (x ∷ names) name e = elim (same_one x name) [ inl h ↦ inl h.1 | inr h ↦ inr (has_has names name (sym (ap (λ (b : Bool). b || has_name names name) h) ∙ e)) ]
-
 -- a delete for which the script asks aborted it
 deleted_line : (script : List ScriptLine) (all : List Entry) (o : ℕ) (name : Bytes) (answer : Option Reply) → AsksAll script all → name_of_op all o ≡ Some name → WasAborted all o answer → IsDeletedBy script name
 deleted_line script all o name answer asks is h =
     let same : h.of ≡ name = same_Some h.of name (sym h.of_is ∙ is) in
-    let (line, there, item) = asks h.e h.names h.has h.step in
-    (line, h.names, there, item, has_has h.names name (subst (λ (n : Bytes). has_name h.names n ≡ true) same h.named))
+    asks h.e h.command name h.has h.step (subst (λ (n : Bytes). names_it h.command n ≡ true) same h.named)
 
 asked_by : (script before : List ScriptLine) (all : List Entry) (of : Bytes) (refs : List AskedIndex) (moment : ℕ) (reply : entry.Reply) (indices : List LineIndex) → IsCalm (Unit {0}) reply (AskStep (Snapshot of refs moment))
     → IsSaid (AskStep (Snapshot of refs moment)) reply → IsCleaningIn before reply → AsksAll script all

@@ -6,7 +6,7 @@ use Rattle.esr_model.specs.Names.{BlobName}
 use Rattle.esr_model.specs.Values.{Bytes, Has, Formats}
 use Rattle.esr_model.specs.Image.{Image}
 use Rattle.esr_core.specs.World.{World, Caller, no_caller, Opened, OpenedEmpty, OpenedRecord}
-use Rattle.esr_core.specs.Entry.{DeleteSnapshots, Cleanup, Read, ReadBlob, CheckedAll, DrawTest, VerifiedAll, ReadFails, Why, Step, AskStep, TakeStep, ElectStep, LookStep, ReadStep, HasEnded, DeposedAt, Reply, Refused, Entry, Moment}
+use Rattle.esr_core.specs.Entry.{Asked, Cleanup, Read, ReadBlob, CheckedAll, DrawTest, VerifiedAll, ReadFails, Why, Step, AskStep, TakeStep, ElectStep, LookStep, ReadStep, HasEnded, DeposedAt, Reply, Refused, Entry, Moment}
 use Rattle.esr_core.specs.After.{told_blob, is_heard, caller_told, caller_wrote, caller_read, caller_after}
 use Rattle.esr_core.specs.Allowed as allowed
 use Rattle.esr_core.specs.Allowed.{ReadAllows, ReadFound, ReadMissing, ReadFault, RestoringShard, ReaderFailing, CheckingAll, CheckFailing, VerifyAllows, DrawingTest, TestSpent, BeginningTest, BeginTestFails, CommittingTest, TestTaken, CommitTestFails, RemovingTests, RemoveTestsFails, VerifyingAll, VerifyFailing, Allows, Allowed}
@@ -15,7 +15,7 @@ use Rattle.esr_script.specs.declared.item.Item.TheVariants as items
 use Rattle.esr_script.specs.declared.item.ScriptLine.{ScriptLine}
 use Rattle.esr_script.specs.Kinds.{is_check, asks_step}
 use Rattle.esr_model.specs.Lists.{Has-either}
-use Rattle.esr_report.specs.Replies.{is_line_step, is_of_line}
+use Rattle.esr_report.specs.Replies.{is_line_step, is_of_line, names_it}
 use Rattle.esr_desk.specs.Check.Shown.{AllFetches}
 use Rattle.esr_desk.specs.Start.{Start, formats_of, world_of}
 use Rattle.esr_desk.specs.Own.{caller_of}
@@ -26,7 +26,8 @@ use Rattle.esr_quiet.specs.PrefixLaws.{has_at, quiet_at, legal_at}
 use Rattle.esr_quiet.specs.CallerSteps.{caller_one, caller_left}
 use Rattle.esr_complete.specs.InTurn.{IsInTurn, IsEndOfCheck, IsCheckPart, IsPart, AreParts, NoneAsksCheck, AreChecksInTurn}
 use Rattle.esr_complete.specs.Lines.{step_of_item, steps_of_item, steps_of, entries_of}
-use Rattle.esr_complete.specs.ItemSteps.{only_step, delete_item, cleanup_item}
+use Rattle.esr_complete.specs.ItemSteps.{only_step, naming_item, cleanup_item}
+use Rattle.esr_complete.specs.Answers.{IsDeletedBy}
 use Rattle.esr_complete.proofs.OpEnds.{IsCalm, calm_unblocked}
 use Rattle.esr_complete.proofs.Histories.{calm_of}
 
@@ -111,15 +112,15 @@ lines_step moment (line ∷ lines) step h = elim (Has-either (steps_of_item mome
   | inr later ↦ lines_step moment lines step later
 ]
 
--- a delete that is asked for is that of a line
-pub lines_delete : (moment : ℕ) (lines : List ScriptLine) (names : List Bytes) → Has (steps_of moment lines) (AskStep (DeleteSnapshots names)) → (line : ScriptLine) × Has lines line × (line.item ≡ items.Delete names)
-lines_delete moment [] names h = absurd h
-lines_delete moment (line ∷ lines) names h = elim (Has-either (steps_of_item moment line.item) (steps_of moment lines) (AskStep (DeleteSnapshots names)) h) [
-  | inl own ↦ (line, inl refl, delete_item moment line.item names (only_step moment line.item (AskStep (DeleteSnapshots names)) own))
-  | inr later ↦ let (found, there, is) = lines_delete moment lines names later in (found, inr there, is)
+-- a command that names this is asked for by a line that does
+pub lines_naming : (moment : ℕ) (lines : List ScriptLine) (command : Asked) (name : Bytes) → Has (steps_of moment lines) (AskStep command) → names_it command name ≡ true → IsDeletedBy lines name
+lines_naming moment [] command name h named = absurd h
+lines_naming moment (line ∷ lines) command name h named = elim (Has-either (steps_of_item moment line.item) (steps_of moment lines) (AskStep command) h) [
+  | inl own ↦ let (names, item, has) = naming_item moment line.item command name (only_step moment line.item (AskStep command) own) named in (line, names, inl refl, item, has)
+  | inr later ↦ let (found, names, there, item, has) = lines_naming moment lines command name later named in (found, names, inr there, item, has)
 ]
 
--- so is a cleanup
+-- a cleanup is asked for by a line that does
 pub lines_cleanup : (moment : ℕ) (lines : List ScriptLine) → Has (steps_of moment lines) (AskStep Cleanup) → (line : ScriptLine) × Has lines line × (line.item ≡ items.Cleanup)
 lines_cleanup moment [] h = absurd h
 lines_cleanup moment (line ∷ lines) h = elim (Has-either (steps_of_item moment line.item) (steps_of moment lines) (AskStep Cleanup) h) [

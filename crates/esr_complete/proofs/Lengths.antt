@@ -1,18 +1,19 @@
 -- Of a history in which nothing fails each step was looked at, and no fetch is lost.
-use Rattle.std.proofs.Common.{◌≡◌, ℕ, zero, suc, ◌+◌, ◌≤◌, Bool, true, false, List, [], ◌∷◌, length, refl, ap, subst, inl, inr, arith}
+use Rattle.std.proofs.Common.{◌≡◌, ℕ, zero, suc, ◌+◌, ◌≤◌, Bool, true, false, List, [], ◌∷◌, ◌++◌, length, refl, ap, subst, inl, inr, arith}
 use Rattle.std.specs.Prelude.{◌==◌, ◌&&◌, if◌then◌else◌}
 use Rattle.esr_model.specs.Names.{BlobName}
 use Rattle.esr_model.specs.Values.{Formats}
 use Rattle.esr_model.specs.Image.{Image}
 use Rattle.esr_core.specs.World.{World, Opened, OpenedEmpty, OpenedRecord}
-use Rattle.esr_core.specs.Entry.{Asked, Snapshot, Clone, DeleteSnapshots, Restore, Cleanup, ReadBlob, DrawTest, Step, AskStep, LookStep, ReadStep, Refusal, DeposedAt, AbortedBy, Reply, WasFetched, Refused, Moment}
+use Rattle.esr_core.specs.Entry.{Asked, ReadBlob, DrawTest, Step, AskStep, LookStep, ReadStep, Refusal, DeposedAt, AbortedBy, IdsSpent, GenerationsSpent, TermsSpent, Reply, WasFetched, Refused, Moment}
 use Rattle.esr_bounds.specs.Clients.{commands_by, looks_by, draws_by, commands_in, looks_in, draws_in}
 use Rattle.esr_bounds.specs.Keys.{IsUnheard, AreHeard, IsUntouched, IsHeard}
 use Rattle.esr_bounds.specs.Others.{lost_at, lost_in}
-use Rattle.esr_desk.specs.Start.{Start, formats_of}
+use Rattle.esr_desk.specs.Start.{Start, Legal, formats_of}
 use Rattle.esr_quiet.specs.Asked.{is_line_ask, as_asked, asked_steps}
-use Rattle.esr_quiet.specs.Smooth.{IsSmooth, EachFetchFinds}
+use Rattle.esr_quiet.specs.Smooth.{IsSmooth, IsSpent, EachFetchFinds}
 use Rattle.esr_quiet.specs.Refusals.{IsByRule, AreByRule}
+use Rattle.esr_quiet.specs.RuleLaws.{never_rule}
 use Rattle.esr_quiet.specs.PrefixLaws.{place_of}
 use Rattle.esr_complete.proofs.Histories.{OpenedLaws, opened_in_order}
 
@@ -33,16 +34,8 @@ lost_none (m ∷ log) h =
 -- ---- each step was looked at
 
 no_rule : (command : Asked) (refusal : Refusal) → IsByRule command refusal → IsUnheard (Refused refusal) → ⊥
-no_rule (Snapshot of indices time) (DeposedAt place) rule unheard = rule
-no_rule (Snapshot of indices time) (AbortedBy op) rule unheard = rule
-no_rule (Restore of at) (DeposedAt place) rule unheard = rule
-no_rule (Restore of at) (AbortedBy op) rule unheard = rule
-no_rule (Clone source of names time taken) (DeposedAt place) rule unheard = rule
-no_rule (Clone source of names time taken) (AbortedBy op) rule unheard = rule
-no_rule (DeleteSnapshots names) (DeposedAt place) rule unheard = rule
-no_rule (DeleteSnapshots names) (AbortedBy op) rule unheard = rule
-no_rule Cleanup (DeposedAt place) rule unheard = rule
-no_rule Cleanup (AbortedBy op) rule unheard = rule
+no_rule command (DeposedAt place) rule unheard = never_rule command (DeposedAt place) refl rule
+no_rule command (AbortedBy op) rule unheard = never_rule command (AbortedBy op) refl rule
 no_rule command refusal rule unheard = unheard
 
 refusal_in : (reply : Reply) → IsUnheard reply → (refusal : Refusal) × (reply ≡ Refused refusal)
@@ -70,6 +63,24 @@ pub is_heard : OpenedLaws → (s : Start) (log : List Moment) → IsSmooth s log
 is_heard laws s log smooth rules =
     let in_order = opened_in_order laws s smooth.image smooth.shelf s.world smooth.kept smooth.opened in
     record { tracked = in_order.0; readers = in_order.1; untouched = opened_untouched (formats_of s) smooth.image s.world smooth.opened; legal = smooth.legal; heard = all_heard s log rules }
+
+-- ---- so was one more step that is refused since a number is spent
+
+spent_heard : (reply : Reply) → IsSpent reply → IsUnheard reply → ⊥
+spent_heard (Refused (IdsSpent next)) spent unheard = unheard
+spent_heard (Refused (GenerationsSpent pending)) spent unheard = unheard
+spent_heard (Refused (TermsSpent term)) spent unheard = unheard
+spent_heard reply spent unheard = spent
+
+all_heard_more : (log : List Moment) (last : Moment) → AreHeard log → IsSpent last.entry.reply → AreHeard (log ++ last ∷ [])
+all_heard_more [] last heard spent m (inl is) unheard = spent_heard m.entry.reply (subst (λ (x : Moment). IsSpent x.entry.reply) is spent) unheard
+all_heard_more [] last heard spent m (inr has) unheard = absurd has
+all_heard_more (x ∷ log) last heard spent m (inl is) unheard = heard m (inl is) unheard
+all_heard_more (x ∷ log) last heard spent m (inr has) unheard = all_heard_more log last (λ n there. heard n (inr there)) spent m has unheard
+
+pub one_more_heard : (s : Start) (log : List Moment) (last : Moment) → IsHeard (formats_of s) s.part_size s.world log → Legal s (log ++ last ∷ []) → IsSpent last.entry.reply
+    → IsHeard (formats_of s) s.part_size s.world (log ++ last ∷ [])
+one_more_heard s log last h legal spent = record { tracked = h.tracked; readers = h.readers; untouched = h.untouched; legal = legal; heard = all_heard_more log last h.heard spent }
 
 -- ---- what it asks for is what lines ask for
 

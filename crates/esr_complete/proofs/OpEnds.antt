@@ -3,16 +3,16 @@ use Rattle.std.proofs.Common.{◌≡◌, ◌⊎◌, ℕ, Bool, true, false, true
 use Rattle.std.proofs.lemmas.Bool.{eqb-true, cond-true, cond-false, cases_Bool}
 use Rattle.std.proofs.lemmas.Option.{none-some}
 use Rattle.esr_model.specs.Values.{Bytes, Has}
-use Rattle.esr_core.specs.Entry.{DeleteSnapshots, DeleteFails, SettlePruned, Step, AskStep, SettleStep, FailedStep, DroppedStep, PruneStep, Refusal, StaleTerm, Reply, Accepted, WasSettled, HasEnded, Refused, Entry}
+use Rattle.esr_core.specs.Entry.{DeleteFails, Asked, SettlePruned, Step, AskStep, SettleStep, FailedStep, DroppedStep, PruneStep, Refusal, AbortedBy, StaleTerm, Reply, Accepted, WasSettled, HasEnded, Refused, Entry}
 use Rattle.esr_core.specs.World.{World}
 use Rattle.esr_core.specs.Allowed.{Blocks, ByFailedSwap, ByDelete}
 use Rattle.esr_core.specs.After.{or_else}
 use Rattle.esr_core.specs.Laws.Tests.{same_number}
 use Rattle.esr_quiet.specs.Refusals.{IsByRule, IsSwapStep}
-use Rattle.esr_quiet.specs.Askers.{no_abort_rule}
+use Rattle.esr_quiet.specs.RuleLaws.{never_rule}
 use Rattle.esr_report.specs.Cleaned.{is_cleanup_ticket, blobs_gone, bytes_gone}
 use Rattle.esr_report.specs.Replies as report
-use Rattle.esr_report.specs.Replies.{Made, Deleted, Cleaned, Aborted, op_of_ticket, uuid_of_ticket, is_op, is_stale, fails_by, delete_of_ticket, cleaned_by, ends_by, ends_at, name_of_op, final_out, has_name, abort_of, aborts_at, end_of_op}
+use Rattle.esr_report.specs.Replies.{Made, Deleted, Cleaned, Aborted, op_of_ticket, uuid_of_ticket, is_op, is_stale, fails_by, delete_of_ticket, cleaned_by, ends_by, ends_at, name_of_op, final_out, names_it, abort_of, aborts_at, end_of_op}
 use Rattle.esr_complete.proofs.Tickets.{name_stays, name_before}
 
 -- no unit failed by this entry, nor a delete or a cleanup but where this is so, and no refusal but that of a command by a rule, or of a
@@ -32,7 +32,7 @@ AreCalmIn all = (before : List Entry) (e : Entry) (back : List Entry) → all �
 -- what is calm nothing blocks
 pub calm_unblocked : (stale : Type 0) (w : World) (who : ℕ) (step : Step) (refusal : Refusal) → w.deposed ≡ false → IsCalm stale (Refused refusal) step → Blocks w who step refusal → ⊥
 calm_unblocked stale w who step _ alive calm (ByFailedSwap place deposed) = true≢false (sym deposed ∙ alive)
-calm_unblocked stale w who (AskStep command) _ alive calm (ByDelete op undeposed aborted) = no_abort_rule command op calm
+calm_unblocked stale w who (AskStep command) _ alive calm (ByDelete op undeposed aborted) = never_rule command (AbortedBy op) refl calm
 calm_unblocked stale w who step _ alive calm (ByDelete op undeposed aborted) = calm
 
 -- ---- what an entry answers an op
@@ -148,11 +148,11 @@ over_at cleans all before o e calm h = elim (cases_Bool (is_op o (op_of_ticket a
 pub record IsAbort (name : Option Bytes) (step : Step) (reply : Reply) (answer : report.Reply) : Type 0 where
   pub by : ℕ
   pub of : Bytes
-  pub names : List Bytes
+  pub command : Asked
   pub name_is : name ≡ Some of
-  pub step_is : step ≡ AskStep (DeleteSnapshots names)
+  pub step_is : step ≡ AskStep command
   pub reply_is : reply ≡ Accepted by
-  pub named : has_name names of ≡ true
+  pub named : names_it command of ≡ true
   pub answer_is : answer ≡ Aborted by
 
 one_reply : (a b : report.Reply) → Some a ≡ Some b → a ≡ b
@@ -161,8 +161,8 @@ one_reply a b e = cc
 abort_told : (name : Option Bytes) (k : Option ℕ) (step : Step) (reply : Reply) (answer : report.Reply) → abort_of name k step reply ≡ Some answer → IsAbort name step reply answer
 abort_told None k step reply answer e = absurd (none-some answer e)
 abort_told (Some name) (Some k) step reply answer e = absurd (none-some answer e)
-abort_told (Some name) None (AskStep (DeleteSnapshots names)) (Accepted d) answer e = elim (cases_Bool (has_name names name)) [
-  | inl t ↦ record { by = d; of = name; names = names; name_is = refl; step_is = refl; reply_is = refl; named = t; answer_is = sym (one_reply (Aborted d) answer (sym (cond-true _ _ _ t) ∙ e)) }
+abort_told (Some name) None (AskStep command) (Accepted d) answer e = elim (cases_Bool (names_it command name)) [
+  | inl t ↦ record { by = d; of = name; command = command; name_is = refl; step_is = refl; reply_is = refl; named = t; answer_is = sym (one_reply (Aborted d) answer (sym (cond-true _ _ _ t) ∙ e)) }
   | inr t ↦ absurd (none-some answer (sym (cond-false _ _ _ t) ∙ e))
 ]
 abort_told (Some name) None step reply answer e = absurd (none-some answer e)
@@ -187,11 +187,11 @@ pub record WasAborted (all : List Entry) (o : ℕ) (answer : Option report.Reply
   pub is : answer ≡ Some (Aborted by)
   pub e : Entry
   pub has : Has all e
-  pub names : List Bytes
-  pub step : e.step ≡ AskStep (DeleteSnapshots names)
+  pub command : Asked
+  pub step : e.step ≡ AskStep command
   pub of : Bytes
   pub of_is : name_of_op all o ≡ Some of
-  pub named : has_name names of ≡ true
+  pub named : names_it command of ≡ true
 
 abbrev pub IsEnded : List Entry → ℕ → Option report.Reply → Type 0
 IsEnded all o answer = IsMade answer ⊎ WasAborted all o answer
@@ -237,7 +237,7 @@ end_found all o before (x ∷ es) is calm other left found =
           is = ap (λ (r : report.Reply). Some r) h.answer_is;
           e = x;
           has = subst (λ (l : List Entry). Has l x) (sym is) (has_here before es x);
-          names = h.names;
+          command = h.command;
           step = h.step_is;
           of = h.of;
           of_is = ap (λ (l : List Entry). name_of_op l o) is ∙ name_stays before (x ∷ es) o h.of h.name_is;

@@ -9,11 +9,11 @@ use Rattle.esr_model.specs.Image.{Image}
 use Rattle.esr_core.specs.World.{World, Restored, RestoreShard, Restoring, Reader}
 use Rattle.esr_core.specs.Restores.{IsReading, read_more}
 use Rattle.esr_core.specs.ReadTracked.{ReaderTracked, RestoresTracked}
-use Rattle.esr_core.specs.Entry.{Asked, Restore, Clone, CloneOf, DeleteSnapshots, Cleanup, is_recorded, Given, GivenShard, GivenFinalize, GivenDrop, GivenRestore, GivenClone, GivenDelete, GivenCleanup, Why, Read, ReadBlob, RestoredShard, CheckedAll, CommitTest, ReadFails, Prune, SettlePruned, Step, AskStep, TakeStep, ReadStep, PruneStep, NameInUse, NoSnapshot, NoIndex, BeingDeleted, TooMany, IdsSpent, DepotFault, CleanupRunning, CloneRunning, RestoreRunning, BusyOp, BusyTicket, Reply, Accepted, Gave, WasSettled, WasFetched, WasAbsent, HasEnded, Refused, AcceptedRestore, Entry, Moment}
+use Rattle.esr_core.specs.Entry.{Asked, Restore, Clone, CloneOf, DeleteSnapshots, Cleanup, is_recorded, Given, GivenShard, GivenFinalize, GivenDrop, GivenRestore, GivenClone, GivenDelete, GivenCleanup, Why, Read, ReadBlob, RestoredShard, CheckedAll, CommitTest, ReadFails, Prune, SettlePruned, Step, AskStep, TakeStep, ReadStep, PruneStep, NoSnapshot, BeingDeleted, TooMany, DepotFault, CleanupRunning, Reply, Accepted, Gave, WasSettled, WasFetched, WasAbsent, HasEnded, Refused, AcceptedRestore, Entry, Moment}
 use Rattle.esr_core.specs.Deletes.{delete_number}
 use Rattle.esr_core.specs.After.{told_blob, taken_restore, taken_restore_shard, read_told, shard_over, read_over, read_by, test_left, answered, after}
 use Rattle.esr_core.specs.Allowed as allowed
-use Rattle.esr_core.specs.Allowed.{Gives, GivesRestore, CloneAllows, OpeningClone, CloneUsed, SourceNotListed, SourceDeleted, IndexMissing, FullOfClones, CloneSpent, CloneFault, DeleteAllows, GoingInto, NotNamed, CloneStands, RestoreStands, FullOfOps, DeleteFault, CleanupAllows, OpeningCleanup, OpStands, TicketStands, CleanupFault, RestoreAllows, OpeningRestore, NotListed, NamedByDelete, FullOfRestores, ReadAllows, ReadFound, ReadMissing, ReadFault, RestoringShard, ReaderFailing, CheckingAll, CheckFailing, VerifyAllows, CommitTestFails, SettlingDelete, PruneAllows, Allows, Allowed}
+use Rattle.esr_core.specs.Allowed.{Gives, GivesRestore, CloneAllows, OpeningClone, DeleteAllows, GoingInto, CleanupAllows, OpeningCleanup, RestoreAllows, OpeningRestore, NotListed, NamedByDelete, FullOfRestores, ReadAllows, ReadFound, ReadMissing, ReadFault, RestoringShard, ReaderFailing, CheckingAll, CheckFailing, VerifyAllows, CommitTestFails, SettlingDelete, PruneAllows, Allows, Allowed}
 use Rattle.esr_core.specs.Laws.RestoreShards.{shard_is}
 use Rattle.esr_report.specs.Replies.{ReadShard, shard_ticket_by, shard_end_by}
 use Rattle.esr_core.specs.Laws.RestoreFrames.{IsOld, goes_answered}
@@ -67,30 +67,18 @@ module _ (f : Formats) (size : ℕ) (w : World) (es : List Entry) (h : RestoresI
   -- a delete leaves restores
   asks_delete : (names : List Bytes) (reply : Reply) (image : Option Image) → DeleteAllows w names reply → RestoresIn (answered f w 0 (AskStep (DeleteSnapshots names)) reply image) (es ++ told 0 (AskStep (DeleteSnapshots names)) reply ∷ [])
   asks_delete names reply image (GoingInto acc) = aside 0 (AskStep (DeleteSnapshots names)) (Accepted (delete_number w names)) image tt (λ y. refl) refl refl
-  asks_delete names reply image (NotNamed place clear first) = aside 0 (AskStep (DeleteSnapshots names)) (Refused (NoSnapshot place)) image tt (λ y. refl) refl refl
-  asks_delete names reply image (CloneStands o clear named lowest) = aside 0 (AskStep (DeleteSnapshots names)) (Refused (CloneRunning o)) image tt (λ y. refl) refl refl
-  asks_delete names reply image (RestoreStands o clear named no_clone lowest) = aside 0 (AskStep (DeleteSnapshots names)) (Refused (RestoreRunning o)) image tt (λ y. refl) refl refl
-  asks_delete names reply image (FullOfOps may new full) = aside 0 (AskStep (DeleteSnapshots names)) (Refused (TooMany 1000)) image tt (λ y. refl) refl refl
-  asks_delete names reply image (DeleteFault acc) = aside 0 (AskStep (DeleteSnapshots names)) (Refused DepotFault) image tt (λ y. refl) refl refl
+  asks_delete names reply image other = aside 0 (AskStep (DeleteSnapshots names)) reply image tt (λ y. refl) refl refl
 
   -- so does a cleanup
   asks_cleanup : (reply : Reply) (image : Option Image) → CleanupAllows w reply → RestoresIn (answered f w 0 (AskStep Cleanup) reply image) (es ++ told 0 (AskStep Cleanup) reply ∷ [])
   asks_cleanup reply image (OpeningCleanup acc) = aside 0 (AskStep Cleanup) (Accepted w.next_op) image tt (λ y. refl) refl refl
-  asks_cleanup reply image (OpStands o clear lowest) = aside 0 (AskStep Cleanup) (Refused (BusyOp o)) image tt (λ y. refl) refl refl
-  asks_cleanup reply image (TicketStands k none lowest) = aside 0 (AskStep Cleanup) (Refused (BusyTicket k)) image tt (λ y. refl) refl refl
-  asks_cleanup reply image (CleanupFault acc) = aside 0 (AskStep Cleanup) (Refused DepotFault) image tt (λ y. refl) refl refl
+  asks_cleanup reply image other = aside 0 (AskStep Cleanup) reply image tt (λ y. refl) refl refl
 
   -- a clone leaves them, too
   asks_clone : (source name : Bytes) (names : List Bytes) (time : ℕ) (taken : Option CloneOf) (reply : Reply) (image : Option Image) → CloneAllows f w source name names time taken reply image
       → RestoresIn (answered f w 0 (AskStep (Clone source name names time taken)) reply image) (es ++ told 0 (AskStep (Clone source name names time taken)) reply ∷ [])
   asks_clone source name names time taken reply image (OpeningClone t o im acc) = aside 0 (AskStep (Clone source name names time (Some t))) (Accepted o) im tt (λ y. refl) refl refl
-  asks_clone source name names time taken reply image (CloneUsed uuid im clear is) = aside 0 (AskStep (Clone source name names time None)) (Refused (NameInUse uuid)) im tt (λ y. refl) refl refl
-  asks_clone source name names time taken reply image (SourceNotListed im may none) = aside 0 (AskStep (Clone source name names time None)) (Refused (NoSnapshot 0)) im tt (λ y. refl) refl refl
-  asks_clone source name names time taken reply image (SourceDeleted uuid d im may listed named) = aside 0 (AskStep (Clone source name names time None)) (Refused (BeingDeleted d)) im tt (λ y. refl) refl refl
-  asks_clone source name names time taken reply image (IndexMissing uuid place im may first) = aside 0 (AskStep (Clone source name names time None)) (Refused (NoIndex place)) im tt (λ y. refl) refl refl
-  asks_clone source name names time taken reply image (FullOfClones uuid im may full) = aside 0 (AskStep (Clone source name names time None)) (Refused (TooMany 1000)) im tt (λ y. refl) refl refl
-  asks_clone source name names time taken reply image (CloneSpent uuid im may room spent) = aside 0 (AskStep (Clone source name names time None)) (Refused (IdsSpent w.next_id)) im tt (λ y. refl) refl refl
-  asks_clone source name names time taken reply image (CloneFault t im acc) = aside 0 (AskStep (Clone source name names time (Some t))) (Refused DepotFault) im tt (λ y. refl) refl refl
+  asks_clone source name names time taken reply image other = aside 0 (AskStep (Clone source name names time taken)) reply image tt (λ y. refl) refl refl
 
   gives_restore : (o index number uuid : ℕ) → GivesRestore w o index number uuid → RestoresIn (taken_restore w o index number (fin.get w.restores o)) (es ++ gave w.next_ticket o (GivenRestore index number uuid) ∷ [])
   gives_restore o index number uuid g =
@@ -175,7 +163,7 @@ module _ (f : Formats) (size : ℕ) (w : World) (es : List Entry) (h : RestoresI
   restores_by who step reply image (allowed.Giving k o unit im is lowest g same) un = gives k o unit im is g
   restores_by who step reply image (allowed.Reading k read rep im a same) un = reads k read rep im a un
   restores_by who step reply image (allowed.Verifying read rep im a) un = verifies read rep im a
-  restores_by who step reply image (allowed.Cleaning command d x im recorded there clean same) un = aside 0 (AskStep command) (Refused (CleanupRunning d)) im (recorded_old command (Refused (CleanupRunning d)) recorded) (λ y. refl) refl refl
+  restores_by who step reply image (allowed.Cleaning command d x im recorded untaken there clean same) un = aside 0 (AskStep command) (Refused (CleanupRunning d)) im (recorded_old command (Refused (CleanupRunning d)) recorded) (λ y. refl) refl refl
   restores_by who step reply image (allowed.Pruning k prune rep im p) un = prunes k prune rep im p
   restores_by who step reply image other un = aside who step reply image tt (λ y. refl) refl refl
 

@@ -29,7 +29,7 @@ use Rattle.esr_model.specs.Lists.{Has-right}
 use Rattle.esr_core.specs.Laws.Tests.{same_number}
 use Rattle.esr_report.specs.Cleaned.{cleanup_by, is_cleanup_ticket}
 use Rattle.esr_report.specs.Replies as report
-use Rattle.esr_report.specs.Replies.{op_by, is_op, uuid_by, name_by, name_of_op, final_out, has_name, abort_of, aborts_at, is_over}
+use Rattle.esr_report.specs.Replies.{op_by, is_op, uuid_by, name_by, name_of_op, final_out, has_name, abort_by, abort_of, aborts_at, is_over}
 use Rattle.esr_report.specs.Aborts.{accepted_by}
 use Rattle.esr_complete.proofs.Tickets.{op_stays, uuid_stays, cleanup_stays, cleanup_of, is_cleanup_op, cleans_stays, cleans_given, name_stays, name_given, IsGiftless}
 use Rattle.esr_complete.proofs.OpEnds.{IsCalm, calm_unblocked, abort_names}
@@ -103,6 +103,17 @@ same_delete p q e = cc
 
 none_delete : (p : Bool × ℕ) (found : Option (Bool × ℕ)) → found ≡ None → found ≡ Some p → ⊥
 none_delete p found none e = none-some p (sym none ∙ e)
+
+-- the command asks for a delete of what has one of these names, and tells nothing else
+record AsksFor (command : Asked) (names : List Bytes) : Type 0 where
+  said : (d : ℕ) → IsSaid (AskStep command) (Accepted d)
+  op : (d : ℕ) → delete_of (AskStep command) (Accepted d) ≡ Some (false, d)
+  new : (d : ℕ) → accepted_by (AskStep command) (Accepted d) ≡ None
+  unnamed : (o d : ℕ) → (name_by o (AskStep command) (Accepted d) ≡ None) × (is_op o (cleanup_of (AskStep command) (Accepted d)) ≡ false)
+  aborts : (d : ℕ) (name : Bytes) → has_name names name ≡ true → abort_by name (AskStep command) (Accepted d) ≡ Some (report.Aborted d)
+
+by_names : (names : List Bytes) → AsksFor (DeleteSnapshots names) names
+by_names names = record { said = λ d. tt; op = λ d. refl; new = λ d. refl; unnamed = λ o d. (refl, refl); aborts = λ d name named. cond-true (has_name names name) (Some (report.Aborted d)) None named }
 
 -- ---- what tickets are for
 
@@ -374,23 +385,23 @@ module _ (f : Formats) (size : ℕ) (w : World) (es : List Entry) (h : FollowsIn
 
   -- ---- a delete is asked for
 
-  delete_one : (names : List Bytes) (d more : ℕ) → w.next_op ≤ more → IsOne es w.next_op more (told 0 (AskStep (DeleteSnapshots names)) (Accepted d))
-  delete_one names d more up =
+  delete_one : (command : Asked) (names : List Bytes) (of : AsksFor command names) (d more : ℕ) → w.next_op ≤ more → IsOne es w.next_op more (told 0 (AskStep command) (Accepted d))
+  delete_one command names of d more up =
       record {
         up = up;
         giftless = tt;
         no_ticket = λ k. (refl, refl, refl);
-        no_name = λ o any. (refl, refl);
-        said = tt;
-        settles = λ step. absurd (ask_settle (DeleteSnapshots names) step);
-        prunes = λ step. absurd (ask_prune (DeleteSnapshots names) step);
-        leaves = λ step. absurd (ask_drop (DeleteSnapshots names) step);
+        no_name = λ o any. of.unnamed o d;
+        said = of.said d;
+        settles = λ step. absurd (ask_settle command step);
+        prunes = λ step. absurd (ask_prune command step);
+        leaves = λ step. absurd (ask_drop command step);
       }
 
   -- each open op is as it was, or its abort is told
-  module _ (safe : IsSafe f w es) (names : List Bytes) (d more : ℕ) (up : w.next_op ≤ more) where
+  module _ (safe : IsSafe f w es) (command : Asked) (names : List Bytes) (of : AsksFor command names) (d more : ℕ) (up : w.next_op ≤ more) where
     abbrev ask : Entry
-    ask = told 0 (AskStep (DeleteSnapshots names)) (Accepted d)
+    ask = told 0 (AskStep command) (Accepted d)
 
     -- no finalization of one that it aborts is out
     none_out : (o : ℕ) (old : Op) → aborts_op w (named_uuids w names) (o, old) ≡ true → final_out es o ≡ None
@@ -400,15 +411,15 @@ module _ (f : Formats) (size : ℕ) (w : World) (es : List Entry) (h : FollowsIn
         by None is = refl
         by (Some k) is = let t = h.final o k is in absurd (not_out w (named_uuids w names) o old k t.t aborts t.there (safe.present o k t.t is t.there) t.op_is t.is)
 
-    abort_is : (o : ℕ) (old : Op) → fin.get w.ops o ≡ Some old → aborts_op w (named_uuids w names) (o, old) ≡ true → aborts_at es o (told 0 (AskStep (DeleteSnapshots names)) (Accepted d)) ≡ Some (report.Aborted d)
+    abort_is : (o : ℕ) (old : Op) → fin.get w.ops o ≡ Some old → aborts_op w (named_uuids w names) (o, old) ≡ true → aborts_at es o (told 0 (AskStep command) (Accepted d)) ≡ Some (report.Aborted d)
     abort_is o old there aborts =
-        (λ i. abort_of ((h.ops o old there).named i) (none_out o old aborts i) (AskStep (DeleteSnapshots names)) (Accepted d))
-        ∙ cond-true (has_name names old.name) (Some (report.Aborted d)) None (names_it f w safe.shelf safe.law names o old there aborts)
+        (λ i. abort_of ((h.ops o old there).named i) (none_out o old aborts i) (AskStep command) (Accepted d))
+        ∙ of.aborts d old.name (names_it f w safe.shelf safe.law names o old there aborts)
 
-    asked_ops : (o : ℕ) (op : Op) → fin.get (aborted_ops w (named_uuids w names) d) o ≡ Some op → IsToldOp (es ++ told 0 (AskStep (DeleteSnapshots names)) (Accepted d) ∷ []) more o op
+    asked_ops : (o : ℕ) (op : Op) → fin.get (aborted_ops w (named_uuids w names) d) o ≡ Some op → IsToldOp (es ++ told 0 (AskStep command) (Accepted d) ∷ []) more o op
     asked_ops o op e =
         let (old, there, how) = was_op w (named_uuids w names) d o op e in
-        let was : IsToldOp (es ++ ask ∷ []) more o old = ops_stay more ask up (λ p any. (refl, refl)) o old there in
+        let was : IsToldOp (es ++ ask ∷ []) more o old = ops_stay more ask up (λ p any. of.unnamed p d) o old there in
         elim how [
           | inl same ↦ subst (IsToldOp (es ++ ask ∷ []) more o) (sym same) was
           | inr now ↦ subst (IsToldOp (es ++ ask ∷ []) more o) (sym now.0) (record {
@@ -419,34 +430,37 @@ module _ (f : Formats) (size : ℕ) (w : World) (es : List Entry) (h : FollowsIn
           })
         ]
 
-    asked_on : (left : Deletes) → ((e : ℕ) (y : Deletion) → fin.get left e ≡ Some y → IsToldDelete (es ++ told 0 (AskStep (DeleteSnapshots names)) (Accepted d) ∷ []) more e y)
+    asked_on : (left : Deletes) → ((e : ℕ) (y : Deletion) → fin.get left e ≡ Some y → IsToldDelete (es ++ told 0 (AskStep command) (Accepted d) ∷ []) more e y)
         → ((e : ℕ) → IsDeleteIn w.deletes e → IsDeleteIn left e)
-        → IsNameless (es ++ told 0 (AskStep (DeleteSnapshots names)) (Accepted d) ∷ []) more false d → IsDeleteIn left d
-        → Follows w.deposed (aborted_ops w (named_uuids w names) d) left w.tickets w.next_ticket more (es ++ told 0 (AskStep (DeleteSnapshots names)) (Accepted d) ∷ [])
+        → IsNameless (es ++ told 0 (AskStep command) (Accepted d) ∷ []) more false d → IsDeleteIn left d
+        → Follows w.deposed (aborted_ops w (named_uuids w names) d) left w.tickets w.next_ticket more (es ++ told 0 (AskStep command) (Accepted d) ∷ [])
     asked_on left told_deletes kept nameless stands =
-        goes_on w.deposed w.ops (aborted_ops w (named_uuids w names) d) w.deletes left w.tickets w.tickets w.next_ticket w.next_op more es ask h (delete_one names d more up) asked_ops told_deletes (kin_same w.tickets) (out_same w.tickets ask)
-        (λ o name was. inl (aborts.is_op w (named_uuids w names) d o was.0 was.1)) (λ cleans e was_nameless was. inl (kept e was)) (λ o e. absurd (none-some o e))
-        (λ cleans e is. subst (λ (p : Bool × ℕ). IsNameless (es ++ ask ∷ []) more p.0 p.1 × IsDeleteIn left p.1) (same_delete (false, d) (cleans, e) is) (nameless, stands))
+        goes_on w.deposed w.ops (aborted_ops w (named_uuids w names) d) w.deletes left w.tickets w.tickets w.next_ticket w.next_op more es ask h
+        (delete_one command names of d more up) asked_ops told_deletes (kin_same w.tickets) (out_same w.tickets ask)
+        (λ o name was. inl (aborts.is_op w (named_uuids w names) d o was.0 was.1)) (λ cleans e was_nameless was. inl (kept e was)) (λ o e. absurd (none-some o (sym (of.new d) ∙ e)))
+        (λ cleans e is. subst (λ (p : Bool × ℕ). IsNameless (es ++ ask ∷ []) more p.0 p.1 × IsDeleteIn left p.1) (same_delete (false, d) (cleans, e) (sym (of.op d) ∙ is)) (nameless, stands))
 
   -- it joins an open delete
-  joins : NoCleanup w → (names : List Bytes) (d : ℕ) → IsDeleteIn w.deletes d → FollowsIn w (es ++ told 0 (AskStep (DeleteSnapshots names)) (Accepted d) ∷ [])
-  joins clear names d stands =
-      let x : Entry = told 0 (AskStep (DeleteSnapshots names)) (Accepted d) in
-      let one : IsOne es w.next_op w.next_op x = delete_one names d w.next_op (le_refl w.next_op) in
+  joins : NoCleanup w → (command : Asked) (names : List Bytes) (of : AsksFor command names) (d : ℕ) → IsDeleteIn w.deletes d → FollowsIn w (es ++ told 0 (AskStep command) (Accepted d) ∷ [])
+  joins clear command names of d stands =
+      let x : Entry = told 0 (AskStep command) (Accepted d) in
+      let one : IsOne es w.next_op w.next_op x = delete_one command names of d w.next_op (le_refl w.next_op) in
       let nameless : IsNameless (es ++ x ∷ []) w.next_op false d = subst (λ (b : Bool). IsNameless (es ++ x ∷ []) w.next_op b d) (clear d stands.0 stands.1) (deletes_stay w.next_op x one d stands.0 stands.1).nameless in
       goes_on w.deposed w.ops w.ops w.deletes w.deletes w.tickets w.tickets w.next_ticket w.next_op w.next_op es x h one (ops_stay w.next_op x one.up one.no_name)
       (deletes_stay w.next_op x one) (kin_same w.tickets) (out_same w.tickets x) (λ o name was. inl was) (λ cleans e nameless was. inl was)
-      (λ o e. absurd (none-some o e)) (λ cleans e is. subst (λ (p : Bool × ℕ). IsNameless (es ++ x ∷ []) w.next_op p.0 p.1 × IsDeleteIn w.deletes p.1) (same_delete (false, d) (cleans, e) is) (nameless, stands))
+      (λ o e. absurd (none-some o (sym (of.new d) ∙ e)))
+      (λ cleans e is. subst (λ (p : Bool × ℕ). IsNameless (es ++ x ∷ []) w.next_op p.0 p.1 × IsDeleteIn w.deletes p.1) (same_delete (false, d) (cleans, e) (sym (of.op d) ∙ is)) (nameless, stands))
 
   -- it is merged into one that waits
-  merges : IsSafe f w es → NoCleanup w → (names : List Bytes) (d : ℕ) → Waits w d → FollowsIn (delete_merged w names d (fin.get w.deletes d)) (es ++ told 0 (AskStep (DeleteSnapshots names)) (Accepted d) ∷ [])
-  merges safe clear names d a =
-      let x : Entry = told 0 (AskStep (DeleteSnapshots names)) (Accepted d) in
-      let one : IsOne es w.next_op w.next_op x = delete_one names d w.next_op (le_refl w.next_op) in
+  merges : IsSafe f w es → NoCleanup w → (command : Asked) (names : List Bytes) (of : AsksFor command names) (d : ℕ) → Waits w d
+      → FollowsIn (delete_merged w names d (fin.get w.deletes d)) (es ++ told 0 (AskStep command) (Accepted d) ∷ [])
+  merges safe clear command names of d a =
+      let x : Entry = told 0 (AskStep command) (Accepted d) in
+      let one : IsOne es w.next_op w.next_op x = delete_one command names of d w.next_op (le_refl w.next_op) in
       let y : Deletion = record a.x { uuids = with_named w a.x.uuids names } in
       let old : IsToldDelete (es ++ x ∷ []) w.next_op d a.x = deletes_stay w.next_op x one d a.x a.there in
       subst (λ (found : Option Deletion). FollowsIn (delete_merged w names d found) (es ++ x ∷ [])) (sym a.there)
-      (asked_on safe names d w.next_op (le_refl w.next_op) (fin.insert w.deletes d y)
+      (asked_on safe command names of d w.next_op (le_refl w.next_op) (fin.insert w.deletes d y)
       (λ e z is. elim (was_in w.deletes d y e z is) [
         | inl mine ↦ subst (λ (p : ℕ × Deletion). IsToldDelete (es ++ x ∷ []) w.next_op p.0 p.1) (λ i. (sym mine.0 i, mine.1 i)) (record { unfailed = old.unfailed; nameless = old.nameless })
         | inr other ↦ deletes_stay w.next_op x one e z other.1
@@ -454,30 +468,31 @@ module _ (f : Formats) (size : ℕ) (w : World) (es : List Entry) (h : FollowsIn
       (delete_on w.deletes d y) (subst (λ (b : Bool). IsNameless (es ++ x ∷ []) w.next_op b d) (clear d a.x a.there) old.nameless) (y, same_in w.deletes d y))
 
   -- or it is an op of its own
-  opens : IsSafe f w es → (names : List Bytes) → FollowsIn (delete_by w names None None) (es ++ told 0 (AskStep (DeleteSnapshots names)) (Accepted w.next_op) ∷ [])
-  opens safe names =
+  opens : IsSafe f w es → (command : Asked) (names : List Bytes) (of : AsksFor command names) → FollowsIn (delete_by w names None None) (es ++ told 0 (AskStep command) (Accepted w.next_op) ∷ [])
+  opens safe command names of =
       let d : ℕ = w.next_op in
-      let x : Entry = told 0 (AskStep (DeleteSnapshots names)) (Accepted w.next_op) in
-      let one : IsOne es w.next_op (suc w.next_op) x = delete_one names w.next_op (suc w.next_op) (one_up w.next_op) in
+      let x : Entry = told 0 (AskStep command) (Accepted w.next_op) in
+      let one : IsOne es w.next_op (suc w.next_op) x = delete_one command names of w.next_op (suc w.next_op) (one_up w.next_op) in
       let y : Deletion = record { uuids = named_uuids w names; clean = false; failed = false } in
       let coming = h.coming w.next_op (le_refl w.next_op) in
-      let nameless : IsNameless (es ++ x ∷ []) (suc w.next_op) false w.next_op = record { unnamed = name_given es x w.next_op coming.0; below = below_up w.next_op; kind = cleans_stays es x w.next_op refl ∙ coming.1 } in
-      asked_on safe names w.next_op (suc w.next_op) (one_up w.next_op) (fin.insert w.deletes w.next_op y)
+      let nameless : IsNameless (es ++ x ∷ []) (suc w.next_op) false w.next_op =
+      record { unnamed = name_given es x w.next_op coming.0 ∙ (of.unnamed w.next_op w.next_op).0; below = below_up w.next_op; kind = cleans_stays es x w.next_op (of.unnamed w.next_op w.next_op).1 ∙ coming.1 } in
+      asked_on safe command names of w.next_op (suc w.next_op) (one_up w.next_op) (fin.insert w.deletes w.next_op y)
       (λ e z is. elim (was_in w.deletes w.next_op y e z is) [
         | inl mine ↦ subst (λ (p : ℕ × Deletion). IsToldDelete (es ++ x ∷ []) (suc w.next_op) p.0 p.1) (λ i. (sym mine.0 i, mine.1 i)) (record { unfailed = refl; nameless = nameless })
         | inr other ↦ deletes_stay (suc w.next_op) x one e z other.1
       ])
       (delete_on w.deletes w.next_op y) nameless (y, same_in w.deletes w.next_op y)
 
-  goes_into : IsSafe f w es → NoCleanup w → (names : List Bytes) (waiting running : Option ℕ) → waiting_delete w ≡ waiting → running_delete w (named_uuids w names) ≡ running
-      → FollowsIn (delete_by w names waiting running) (es ++ told 0 (AskStep (DeleteSnapshots names)) (Accepted (number_by w.next_op waiting running)) ∷ [])
-  goes_into safe clear names (Some d) running is runs = merges safe clear names d (waits w d is)
-  goes_into safe clear names None (Some d) is runs = let (x, m) = running_there (runs_for w (named_uuids w names)) (fin.entries w.deletes) d runs in joins clear names d (x, entry_got w.deletes d x m)
-  goes_into safe clear names None None is runs = opens safe names
+  goes_into : IsSafe f w es → NoCleanup w → (command : Asked) (names : List Bytes) (of : AsksFor command names) (waiting running : Option ℕ) → waiting_delete w ≡ waiting → running_delete w (named_uuids w names) ≡ running
+      → FollowsIn (delete_by w names waiting running) (es ++ told 0 (AskStep command) (Accepted (number_by w.next_op waiting running)) ∷ [])
+  goes_into safe clear command names of (Some d) running is runs = merges safe clear command names of d (waits w d is)
+  goes_into safe clear command names of None (Some d) is runs = let (x, m) = running_there (runs_for w (named_uuids w names)) (fin.entries w.deletes) d runs in joins clear command names of d (x, entry_got w.deletes d x m)
+  goes_into safe clear command names of None None is runs = opens safe command names of
 
   asks_delete : (stale : Type 0) → IsSafe f w es → (names : List Bytes) (reply : Reply) (image : Option Image) → DeleteAllows w names reply → IsCalm stale reply (AskStep (DeleteSnapshots names))
       → FollowsIn (after f w (moment 0 (AskStep (DeleteSnapshots names)) reply image)) (es ++ told 0 (AskStep (DeleteSnapshots names)) reply ∷ [])
-  asks_delete stale safe names reply image (GoingInto acc) calm = goes_into safe acc.may.no_cleanup names (waiting_delete w) (running_delete w (named_uuids w names)) refl refl
+  asks_delete stale safe names reply image (GoingInto acc) calm = goes_into safe acc.may.no_cleanup (DeleteSnapshots names) names (by_names names) (waiting_delete w) (running_delete w (named_uuids w names)) refl refl
   asks_delete stale safe names reply image (NotNamed place clear first) calm = stays (told 0 (AskStep (DeleteSnapshots names)) (Refused (NoSnapshot place))) tt tt
   asks_delete stale safe names reply image (CloneStands o clear named lowest) calm = stays (told 0 (AskStep (DeleteSnapshots names)) (Refused (CloneRunning o))) tt tt
   asks_delete stale safe names reply image (RestoreStands o clear named no_clone lowest) calm = stays (told 0 (AskStep (DeleteSnapshots names)) (Refused (RestoreRunning o))) tt tt
@@ -982,7 +997,7 @@ module _ (f : Formats) (size : ℕ) (w : World) (es : List Entry) (h : FollowsIn
   follows_by who step reply image (allowed.AskingCleanup rep im a same) calm safe = asks_cleanup (IsStaleIn w 0) rep im a calm
   follows_by who step reply image (allowed.Reading k read rep im a same) calm safe = reads (IsStaleIn w k) k read rep im a calm
   follows_by who step reply image (allowed.Verifying read rep im a) calm safe = verifies (IsStaleIn w 0) read rep im a calm
-  follows_by who step reply image (allowed.Cleaning command d x im recorded there clean same) calm safe = cleaning command d recorded
+  follows_by who step reply image (allowed.Cleaning command d x im recorded untaken there clean same) calm safe = cleaning command d recorded
   follows_by who step reply image (allowed.Pruning k prune rep im p) calm safe = prunes k prune rep im p calm
   follows_by who step reply image (allowed.RaiseStale k im may apart same) calm safe = stays (told k RaiseStep (Refused (StaleTerm may.t.term w.term))) tt tt
   follows_by who step reply image (allowed.SettleStale k n t swapped im may apart same) calm safe = stays (told k SettleStep (Refused (StaleTerm t.term w.term))) tt tt

@@ -1,11 +1,13 @@
 -- Laws of the step for which a line asks: there is at most one, and a command is asked for by its own line alone.
-use Rattle.std.proofs.Common.{◌≡◌, ℕ, ◌≤◌, true, false, List, [], ◌∷◌, length, map, Option, Some, None, is_some, option_to_list, refl, ap, ◌∙◌, inl, inr, arith}
+use Rattle.std.proofs.Common.{◌≡◌, ℕ, ◌≤◌, Bool, true, false, true≢false, ◌||◌, List, [], ◌∷◌, length, map, Option, Some, None, is_some, option_to_list, refl, sym, ap, ◌∙◌, inl, inr, arith}
 use Rattle.esr_model.specs.Values.{Bytes, Has}
-use Rattle.esr_core.specs.Entry.{AskedIndex, Snapshot, DeleteSnapshots, Restore, Cleanup, Step, AskStep}
+use Rattle.esr_core.specs.Entry.{AskedIndex, Asked, Snapshot, DeleteSnapshots, Restore, Cleanup, Step, AskStep}
+use Rattle.esr_core.specs.Laws.Tests.{same_one}
 use Rattle.esr_script.specs.declared.item.AskedIndex.{AskedIndex as LineIndex}
 use Rattle.esr_script.specs.declared.item.Item.{Item}
 use Rattle.esr_script.specs.declared.item.Item.TheVariants as items
 use Rattle.esr_script.specs.Kinds.{asks_step}
+use Rattle.esr_report.specs.Replies.{has_name, names_it}
 use Rattle.esr_complete.specs.Lines.{index_of_line, step_of_item, steps_of_item}
 
 -- ---- at most one
@@ -51,9 +53,18 @@ pub snapshot_item : (moment : ℕ) (item : Item) (name : Bytes) (indices : List 
 snapshot_item moment (items.Snapshot called of) name indices when is = (of, cc, cc)
 snapshot_item moment item name indices when is = absurd cc
 
-pub delete_item : (moment : ℕ) (item : Item) (names : List Bytes) → steps_of_item moment item ≡ AskStep (DeleteSnapshots names) ∷ [] → item ≡ items.Delete names
+delete_item : (moment : ℕ) (item : Item) (names : List Bytes) → steps_of_item moment item ≡ AskStep (DeleteSnapshots names) ∷ [] → item ≡ items.Delete names
 delete_item moment (items.Delete called) names is = cc
 delete_item moment item names is = absurd cc
+
+named_has : (names : List Bytes) (name : Bytes) → has_name names name ≡ true → Has names name
+named_has [] name e = absurd (true≢false (sym e))
+named_has (x ∷ names) name e = elim (same_one x name) [ inl h ↦ inl h.1 | inr h ↦ inr (named_has names name (sym (ap (λ (b : Bool). b || has_name names name) h) ∙ e)) ]
+
+-- a line whose command names this is a delete of it
+pub naming_item : (moment : ℕ) (item : Item) (command : Asked) (name : Bytes) → steps_of_item moment item ≡ AskStep command ∷ [] → names_it command name ≡ true → (names : List Bytes) × (item ≡ items.Delete names) × Has names name
+naming_item moment item (DeleteSnapshots names) name is named = (names, delete_item moment item names is, named_has names name named)
+naming_item moment item command name is named = absurd (true≢false (sym named))
 
 pub restore_item : (moment : ℕ) (item : Item) (name place : Bytes) → steps_of_item moment item ≡ AskStep (Restore name place) ∷ [] → item ≡ items.Restore name place
 restore_item moment (items.Restore called below) name place is = cc

@@ -1,8 +1,7 @@
 -- The op of a clone that is accepted: its indices are those of its source, and it draws its uuid alone.
-use Rattle.std.proofs.Common.{◌≡◌, ℕ, suc, ◌+◌, ◌<◌, List, [], ◌∷◌, Option, Some, map, refl, sym, ap, ◌∙◌, subst, inl, inr, arith}
-use Rattle.std.proofs.lemmas.Option.{same_Some, none-some}
-use Rattle.std.proofs.lemmas.Bool.{cond-true, cond-false}
-use Rattle.esr_core.specs.Laws.Tests.{told, same_one}
+use Rattle.std.proofs.Common.{◌≡◌, ℕ, suc, ◌+◌, ◌<◌, List, [], ◌∷◌, Option, map, refl, sym, ap, ◌∙◌, subst, inl, inr, arith}
+use Rattle.std.proofs.lemmas.Option.{same_Some}
+use Rattle.esr_core.specs.Laws.Tests.{told}
 use Rattle.esr_model.specs.Values.{Bytes, Has, IndexRef, RootIndex, Formats}
 use Rattle.esr_model.specs.Shelf.{Shelved}
 use Rattle.esr_model.specs.Kept.{first_id}
@@ -18,29 +17,10 @@ use Rattle.esr_core.specs.Entry.{CloneOf}
 use Rattle.esr_core.specs.After.{ref_by_name, and_ref, named_refs, chosen_refs, copied_shard, cloned_op, clone_opened}
 use Rattle.esr_core.specs.Allowed.{IsSpared, IsInInfo, AcceptsClone}
 use Rattle.esr_model.specs.Lists.{Has-mapped}
-use Rattle.esr_core.specs.Laws.CloneOps.{copied_pending}
+use Rattle.esr_core.specs.Laws.CloneOps.{copied_pending, by_name, named_is, chosen_among}
 use Rattle.esr_core.proofs.Chosen.{apart-once}
 
 -- ---- the indices that a clone takes
-
-by_name : (all : List IndexRef) (name : Bytes) (r : IndexRef) → ref_by_name all name ≡ Some r → Has all r × (r.name ≡ name)
-by_name [] name r is = absurd (none-some r is)
-by_name (q ∷ all) name r is = elim (same_one q.name name) [
-  | inl h ↦ let same : q ≡ r = same_Some q r (sym (cond-true _ _ _ h.0) ∙ is) in (inl same, ap (λ (x : IndexRef). x.name) (sym same) ∙ h.1)
-  | inr h ↦ let (m, e) = by_name all name r (sym (cond-false _ _ _ h) ∙ is) in (inr m, e)
-]
-
--- each is one of all, and of one of the names
-named_is : (all : List IndexRef) (names : List Bytes) (r : IndexRef) → Has (named_refs all names) r → Has all r × Has names r.name
-named_is all [] r m = absurd m
-named_is all (name ∷ names) r m = elim (told (ref_by_name all name)) [
-  | inl none ↦ let h = named_is all names r (subst (λ o. Has (and_ref o (named_refs all names)) r) none m) in (h.0, inr h.1)
-  | inr found ↦ first found.0 (by_name all name found.0 found.1) (subst (λ o. Has (and_ref o (named_refs all names)) r) found.1 m) (named_is all names r)
-]
-  where
-    first : (q : IndexRef) → Has all q × (q.name ≡ name) → Has (q ∷ named_refs all names) r → (Has (named_refs all names) r → Has all r × Has names r.name) → Has all r × Has (name ∷ names) r.name
-    first q h (inl e) rest = (subst (Has all) e h.0, inl (sym h.1 ∙ ap (λ (x : IndexRef). x.name) e))
-    first q h (inr n) rest = let g = rest n in (g.0, inr g.1)
 
 once_named : (all : List IndexRef) (names : List Bytes) → AreOnce names → AreOnce (named_refs all names)
 once_named all [] h = tt
@@ -49,10 +29,6 @@ once_named all (name ∷ names) h = elim (told (ref_by_name all name)) [
   | inr found ↦ subst (λ o. AreOnce (and_ref o (named_refs all names))) (sym found.1)
       (λ m. h.0 (subst (Has names) (by_name all name found.0 found.1).1 (named_is all names found.0 m).1), once_named all names h.1)
 ]
-
-chosen_among : (all : List IndexRef) (names : List Bytes) (r : IndexRef) → Has (chosen_refs all names) r → Has all r
-chosen_among all [] r m = m
-chosen_among all (name ∷ names) r m = (named_is all (name ∷ names) r m).0
 
 once_chosen : (all : List IndexRef) (names : List Bytes) → AreOnce all → AreOnce names → AreOnce (chosen_refs all names)
 once_chosen all [] all_once once = all_once

@@ -79,7 +79,7 @@ accepted_by f w name reply image o uuid indices (allowed.FullOfRestores u im lis
 allows_by : (f : Formats) (size : ℕ) (w : World) (who : ℕ) (name place : Bytes) (reply : Reply) (image : Option Image) → Allows f size w who (AskStep (Restore name place)) reply image → (o uuid : ℕ) (indices : List IndexRef)
     → reply ≡ AcceptedRestore o uuid indices → AcceptsRestore f w name o uuid indices image
 allows_by f size w who name place reply image (allowed.AskingRestore n p rep im h same) o uuid indices e = accepted_by f w n rep im o uuid indices h e
-allows_by f size w who name place reply image (allowed.Cleaning command d x im recorded there clean same) o uuid indices e = absurd (true≢false (sym recorded))
+allows_by f size w who name place reply image (allowed.Cleaning command d x im recorded untaken there clean same) o uuid indices e = absurd (true≢false (sym recorded))
 
 refused_accepted : (refusal : Refusal) (o uuid : ℕ) (indices : List IndexRef) → Refused refusal ≡ AcceptedRestore o uuid indices → ⊥
 refused_accepted refusal o uuid indices e = cc

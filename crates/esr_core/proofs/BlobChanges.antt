@@ -84,7 +84,7 @@ module _ (f : Formats) (w : World) (i : Image) where
   allows size who step reply image told (allowed.Verifying read rep im h) = verifies read rep im told h
   allows size who step reply image told (allowed.Reading k read rep im h same) = stay _ im told same
   allows size who step reply image told (allowed.Pruning k prune rep im h) = prunes k prune rep im told h
-  allows size who step reply image told (allowed.Cleaning c d x im recorded there clean same) = stay _ im told same
+  allows size who step reply image told (allowed.Cleaning c d x im recorded untaken there clean same) = stay _ im told same
   allows size who step reply image told (allowed.Used name indices time uuid im clear is same) = stay _ im told same
   allows size who step reply image told (allowed.Full name indices time im clear unused full same) = stay _ im told same
   allows size who step reply image told (allowed.AskSpent name indices time im clear unused room spent same) = stay _ im told same

@@ -6,7 +6,7 @@ use Rattle.esr_model.specs.Kept.{first_id}
 use Rattle.esr_model.specs.Delete.{kept_count}
 use Rattle.esr_model.specs.Image.{Image}
 use Rattle.esr_core.specs.World.{World}
-use Rattle.esr_core.specs.Entry.{CloneOf, Snapshot, Clone, DeleteSnapshots, Restore, Cleanup, Read, ReadStep, Prune, PruneStep, Step, AskStep, Refusal, Reply, AcceptedRestore, WasSettled, Refused, Moment}
+use Rattle.esr_core.specs.Entry.{CloneOf, Asked, Snapshot, Clone, DeleteSnapshots, Restore, Cleanup, Read, ReadStep, Prune, PruneStep, Step, AskStep, Refusal, Reply, AcceptedRestore, WasSettled, Refused, Moment}
 use Rattle.esr_core.specs.After.{new_names}
 use Rattle.esr_core.specs.Allowed as allowed
 use Rattle.esr_core.specs.Allowed.{RestoreAllows, AcceptsRestore, CloneAllows, DeleteAllows, CleanupAllows, ReadAllows, VerifyAllows, PruneAllows, Allows, Blocks, Allowed}
@@ -32,12 +32,12 @@ module _ (f : Formats) (size : ℕ) (w : World) where
   clone who source name names moment taken refusal image (allowed.CloneSpent uuid im may room spent) = OfIds 1 (le_refl 1) (one_id spent)
   clone who source name names moment taken refusal image (allowed.CloneFault t im acc) = OfCall
 
-  delete : (who : ℕ) (names : List Bytes) (refusal : Refusal) (image : Option Image) → DeleteAllows w names (Refused refusal) → RefusalCause f size w who (AskStep (DeleteSnapshots names)) image refusal
-  delete who names refusal image (allowed.NotNamed place clear first) = OfRule _ (DeleteSnapshots names) refl tt
-  delete who names refusal image (allowed.CloneStands o clear named lowest) = OfRule _ (DeleteSnapshots names) refl tt
-  delete who names refusal image (allowed.RestoreStands o clear named no_clone lowest) = OfRule _ (DeleteSnapshots names) refl tt
-  delete who names refusal image (allowed.FullOfOps may new full) = OfRule _ (DeleteSnapshots names) refl tt
-  delete who names refusal image (allowed.DeleteFault acc) = OfCall
+  delete : (who : ℕ) (command : Asked) (names : List Bytes) (refusal : Refusal) (image : Option Image) → DeleteAllows w names (Refused refusal) → RefusalCause f size w who (AskStep command) image refusal
+  delete who command names refusal image (allowed.NotNamed place clear first) = OfRule _ command refl tt
+  delete who command names refusal image (allowed.CloneStands o clear named lowest) = OfRule _ command refl tt
+  delete who command names refusal image (allowed.RestoreStands o clear named no_clone lowest) = OfRule _ command refl tt
+  delete who command names refusal image (allowed.FullOfOps may new full) = OfRule _ command refl tt
+  delete who command names refusal image (allowed.DeleteFault acc) = OfCall
 
   cleanup : (who : ℕ) (refusal : Refusal) (image : Option Image) → CleanupAllows w (Refused refusal) → RefusalCause f size w who (AskStep Cleanup) image refusal
   cleanup who refusal image (allowed.OpStands o clear lowest) = OfRule _ Cleanup refl tt
@@ -64,12 +64,12 @@ module _ (f : Formats) (size : ℕ) (w : World) where
   cause_by : (who : ℕ) (step : Step) (refusal : Refusal) (image : Option Image) → Allows f size w who step (Refused refusal) image → RefusalCause f size w who step image refusal
   cause_by who step refusal image (allowed.AskingRestore name place rep im h same) = restore 0 name place refusal im h
   cause_by who step refusal image (allowed.AskingClone source name names moment taken rep im h same) = clone 0 source name names moment taken refusal im h
-  cause_by who step refusal image (allowed.AskingDelete names rep im h same) = delete 0 names refusal im h
+  cause_by who step refusal image (allowed.AskingDelete names rep im h same) = delete 0 (DeleteSnapshots names) names refusal im h
   cause_by who step refusal image (allowed.AskingCleanup rep im h same) = cleanup 0 refusal im h
   cause_by who step refusal image (allowed.Verifying read rep im h) = verify read refusal im h
   cause_by who step refusal image (allowed.Pruning k prunes rep im h) = prune k prunes refusal im h
   cause_by who step refusal image (allowed.Reading k read rep im h same) = read_cause k read refusal im h
-  cause_by who step refusal image (allowed.Cleaning command d x im recorded there clean same) = OfCleanup command d x refl there clean
+  cause_by who step refusal image (allowed.Cleaning command d x im recorded untaken there clean same) = OfCleanup command d x refl there clean
   cause_by who step refusal image (allowed.Used name indices moment uuid im clear is same) = OfRule _ (Snapshot name indices moment) refl tt
   cause_by who step refusal image (allowed.Full name indices moment im clear unused full same) = OfRule _ (Snapshot name indices moment) refl tt
   cause_by who step refusal image (allowed.AskSpent name indices moment im clear unused room spent same) = OfIds (suc (new_names w indices)) (snapshot_few w indices) spent

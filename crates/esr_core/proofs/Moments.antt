@@ -658,7 +658,7 @@ module _ (f : Formats) (size : ℕ) (w : World) (shelf : List Shelved) (l : Law 
   turn_of who step reply image told (allowed.Verifying read rep im h) = verifies read rep im told h
   turn_of who step reply image told (allowed.Pruning k prune rep im h) =
       subst (λ x. Turned f w k (PruneStep prune) rep (stepped f w (moment k (PruneStep prune) rep x))) (sym told) (pruning k prune rep (subst (PruneAllows f w k prune rep) told h))
-  turn_of who step reply image told (allowed.Cleaning c d x im recorded there clean same) = stays f w 0 (AskStep c) _ im same refl
+  turn_of who step reply image told (allowed.Cleaning c d x im recorded untaken there clean same) = stays f w 0 (AskStep c) _ im same refl
   turn_of who step reply image told (allowed.Used name indices time uuid im clear is same) = stays f w 0 (AskStep (Snapshot name indices time)) _ im same refl
   turn_of who step reply image told (allowed.Full name indices time im clear unused full same) = stays f w 0 (AskStep (Snapshot name indices time)) _ im same refl
   turn_of who step reply image told (allowed.AskSpent name indices time im clear unused room spent same) = stays f w 0 (AskStep (Snapshot name indices time)) _ im same refl

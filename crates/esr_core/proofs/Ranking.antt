@@ -343,7 +343,7 @@ module _ (f : Formats) (size : ℕ) (w : World) (q : Tracked w) (l : Ranked w) w
   ranked_by who step reply image (allowed.Reading k read rep im h same) = reads k read rep im h
   ranked_by who step reply image (allowed.Pruning k prune rep im h) = prunes k prune rep im h
   ranked_by who step reply image (allowed.Verifying read rep im h) = verifies read rep im h
-  ranked_by who step reply image (allowed.Cleaning c d x im recorded there clean same) = l
+  ranked_by who step reply image (allowed.Cleaning c d x im recorded untaken there clean same) = l
   ranked_by who step reply image (allowed.Used name indices time uuid im clear is same) = l
   ranked_by who step reply image (allowed.Full name indices time im clear unused full same) = l
   ranked_by who step reply image (allowed.AskSpent name indices time im clear unused room spent same) = l

@@ -219,7 +219,7 @@ module _ (f : Formats) (size : ℕ) (w : World) (t : Tracked w) (l : ReadTracked
 
   restore_asked : (who : ℕ) (name place : Bytes) (reply : Reply) (image : Option Image) → Allows f size w who (AskStep (Restore name place)) reply image → ReadTracked (answered f w who (AskStep (Restore name place)) reply image)
   restore_asked who name place reply image (allowed.AskingRestore n p rep im h same) = asks n p rep im h
-  restore_asked who name place reply image (allowed.Cleaning command d x im recorded there clean same) = absurd (true≢false (sym recorded))
+  restore_asked who name place reply image (allowed.Cleaning command d x im recorded untaken there clean same) = absurd (true≢false (sym recorded))
 
   reading : (who : ℕ) (read : Read) (reply : Reply) (image : Option Image) → Allows f size w who (ReadStep read) reply image → ReadTracked (answered f w who (ReadStep read) reply image)
   reading who read reply image (allowed.Reading k r rep im h same) = reads k r rep im h

@@ -72,7 +72,7 @@ module _ (f : Formats) (size : ℕ) (w : World) where
   refused_by who step refusal image (allowed.Verifying read rep im h) = verify_refused read refusal image h
   refused_by who step refusal image (allowed.Pruning k prune rep im h) = prune_refused k prune refusal image h
   refused_by who step refusal image (allowed.Reading k read rep im h same) = read_refused k read refusal image h
-  refused_by who step refusal image (allowed.Cleaning command d x im recorded there clean same) = InCleanup command d recorded
+  refused_by who step refusal image (allowed.Cleaning command d x im recorded untaken there clean same) = InCleanup command d recorded
   refused_by who step refusal image (allowed.Used name indices moment uuid im clear is same) = InUse name indices moment uuid
   refused_by who step refusal image (allowed.Full name indices moment im clear unused full same) = InFull name indices moment
   refused_by who step refusal image (allowed.AskSpent name indices moment im clear unused room spent same) = NoIdForAsk name indices moment w.next_id

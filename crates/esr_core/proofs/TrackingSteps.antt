@@ -674,7 +674,7 @@ module _ (f : Formats) (size : ℕ) (w : World) (l : Tracked w) where
   tracked_by who step reply image (allowed.Reading k read rep im h same) = kept _ (reads k read rep im h) (blobs_in im w.blobs)
   tracked_by who step reply image (allowed.Pruning k prune rep im h) = prunes k prune rep im h
   tracked_by who step reply image (allowed.Verifying read rep im h) = kept _ (verifies read rep im h) (blobs_in im w.blobs)
-  tracked_by who step reply image (allowed.Cleaning c d x im recorded there clean same) = kept w l (blobs_in im w.blobs)
+  tracked_by who step reply image (allowed.Cleaning c d x im recorded untaken there clean same) = kept w l (blobs_in im w.blobs)
   tracked_by who step reply image (allowed.Used name indices time uuid im clear is same) = kept w l (blobs_in im w.blobs)
   tracked_by who step reply image (allowed.Full name indices time im clear unused full same) = kept w l (blobs_in im w.blobs)
   tracked_by who step reply image (allowed.AskSpent name indices time im clear unused room spent same) = kept w l (blobs_in im w.blobs)

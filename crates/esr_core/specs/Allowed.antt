@@ -23,7 +23,7 @@ use Rattle.esr_core.specs.Steps.{IsOut, Drew, Largest, MayCommit, MaySettle, IsT
 use Rattle.esr_core.specs.Texts.{IsMetaOf}
 use Rattle.std.specs.Int.{w64, to_be_bytes}
 use Rattle.esr_core.specs.Deletes.{named_uuids, waiting_delete, running_delete, delete_number}
-use Rattle.esr_core.specs.Entry.{AskedIndex, CloneOf, Asked, Snapshot, Clone, DeleteSnapshots, Restore, Cleanup, is_recorded, Given, GivenShard, GivenFinalize, GivenDrop, GivenRestore, GivenClone, GivenDelete, GivenCleanup, Why, Read, ReadBlob, RestoredShard, CheckedAll, DrawTest, BeginTest, CommitTest, RemoveTests, VerifiedAll, ReadFails, Prune, FetchShard, PlanShards, SettlePruned, RemoveDoomed, EndDelete, DeleteFails, Step, AskStep, TakeStep, DrawStep, BeginStep, CommitStep, LatestStep, FetchStep, ListStep, RaiseStep, SettleStep, DoneStep, FailedStep, FinishStep, DroppedStep, ElectStep, LookStep, ReadStep, PruneStep, CleanupRunning, NameInUse, TooMany, DeposedAt, AbortedBy, StaleTerm, GenerationsSpent, TermsSpent, IdsSpent, NameTaken, DepotFault, NoSnapshot, NoIndex, BeingDeleted, CloneRunning, RestoreRunning, BusyOp, BusyTicket, Refusal, Reply, Accepted, NothingReady, Gave, DrawnFrom, WasBegun, WasDone, WasThere, WasReplaced, WasFetched, WasAbsent, WasListed, RaisedTo, WasSettled, HasEnded, ElectedTerm, Looked, Refused, WasRemoved, AcceptedRestore, Entry, Moment}
+use Rattle.esr_core.specs.Entry.{AskedIndex, CloneOf, Asked, Snapshot, Clone, DeleteSnapshots, Restore, Cleanup, is_recorded, TakesNothing, Given, GivenShard, GivenFinalize, GivenDrop, GivenRestore, GivenClone, GivenDelete, GivenCleanup, Why, Read, ReadBlob, RestoredShard, CheckedAll, DrawTest, BeginTest, CommitTest, RemoveTests, VerifiedAll, ReadFails, Prune, FetchShard, PlanShards, SettlePruned, RemoveDoomed, EndDelete, DeleteFails, Step, AskStep, TakeStep, DrawStep, BeginStep, CommitStep, LatestStep, FetchStep, ListStep, RaiseStep, SettleStep, DoneStep, FailedStep, FinishStep, DroppedStep, ElectStep, LookStep, ReadStep, PruneStep, CleanupRunning, NameInUse, TooMany, DeposedAt, AbortedBy, StaleTerm, GenerationsSpent, TermsSpent, IdsSpent, NameTaken, DepotFault, NoSnapshot, NoIndex, BeingDeleted, CloneRunning, RestoreRunning, BusyOp, BusyTicket, Refusal, Reply, Accepted, NothingReady, Gave, DrawnFrom, WasBegun, WasDone, WasThere, WasReplaced, WasFetched, WasAbsent, WasListed, RaisedTo, WasSettled, HasEnded, ElectedTerm, Looked, Refused, WasRemoved, AcceptedRestore, Entry, Moment}
 use Rattle.esr_core.specs.After.{asked_op, new_names, chosen_refs, cloned_op, shard_of, after}
 
 -- what `index.latest` holds: the generation as 8 bytes, the highest first
@@ -829,8 +829,8 @@ pub data Allows (f : Formats) (part_size : ℕ) (w : World) : ℕ → Step → R
   Verifying : (read : Read) (reply : Reply) (image : Option Image) → VerifyAllows f w read reply image → Allows f part_size w 0 (ReadStep read) reply image
   Reading : (k : ℕ) (read : Read) (reply : Reply) (image : Option Image) → ReadAllows f w k read reply image → SameBlobs w image → Allows f part_size w k (ReadStep read) reply image
   Pruning : (k : ℕ) (prune : Prune) (reply : Reply) (image : Option Image) → PruneAllows f w k prune reply image → Allows f part_size w k (PruneStep prune) reply image
-  -- refusals by rule; no command that is recorded is accepted while a cleanup is open
-  Cleaning : (command : Asked) (d : ℕ) (x : Deletion) (image : Option Image) → is_recorded command ≡ true → fin.get w.deletes d ≡ Some x → x.clean ≡ true → SameBlobs w image
+  -- refusals by rule; no command that is recorded is accepted while a cleanup is open, so it takes nothing
+  Cleaning : (command : Asked) (d : ℕ) (x : Deletion) (image : Option Image) → is_recorded command ≡ true → TakesNothing command → fin.get w.deletes d ≡ Some x → x.clean ≡ true → SameBlobs w image
       → Allows f part_size w 0 (AskStep command) (Refused (CleanupRunning d)) image
   Used : (name : Bytes) (indices : List AskedIndex) (moment uuid : ℕ) (image : Option Image) → NoCleanup w → IsNameOf w name uuid → SameBlobs w image
       → Allows f part_size w 0 (AskStep (Snapshot name indices moment)) (Refused (NameInUse uuid)) image

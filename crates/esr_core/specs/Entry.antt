@@ -1,5 +1,5 @@
 -- A step of the repository as the history tells it: who made it, what was asked, and what was answered.
-use Rattle.std.specs.Prelude.{◌≡◌, ◌≢◌, ℕ, ℤ, Bool, true, false, List, Option, refl}
+use Rattle.std.specs.Prelude.{◌≡◌, ◌≢◌, ℕ, ℤ, Bool, true, false, List, Option, Some, refl}
 use Rattle.esr_model.specs.Names.{BlobName}
 use Rattle.esr_model.specs.Values.{Bytes, IndexRef, RootSnap, SnapInfo, ShardResult}
 use Rattle.esr_model.specs.Delete.{PrunedShard}
@@ -38,6 +38,11 @@ is_recorded Cleanup = true
 pub unrecorded : (command : Asked) → is_recorded command ≡ false → (name : Bytes) × (place : Bytes) × (command ≡ Restore name place)
 unrecorded (Restore name place) none = (name, place, refl)
 unrecorded command none = absurd cc
+
+-- it tells nothing that it takes
+abbrev pub TakesNothing : Asked → Type 0
+TakesNothing (Clone source name indices moment (Some taken)) = ⊥
+TakesNothing command = Unit {0}
 
 -- the unit that a ticket was given
 pub data Given : Type 0 where

@@ -1,5 +1,5 @@
 //! Where the parts of a container stand in its folder.
-ghost use Rattle.std.specs.Prelude.{◌≡◌, ◌+◌, ◌≤◌, ◌↔◌, IsOk, IsTrue, OnOk, length, string_bytes, string_capacity};
+ghost use Rattle.std.specs.Prelude.{◌≡◌, ◌+◌, ◌≤◌, ◌↔◌, IfOk, IsOk, IsTrue, OnOk, length, string_bytes, string_capacity};
 
 use crate::name::{LONGEST_NAME, is_inside};
 use esr_seq::Text;
@@ -39,21 +39,43 @@ fn below(alloc: Global, dir: &str, entry: &str) -> Result<Text, AllocError> {
     Ok(Text::from_string(format!(in alloc; "{dir}/{entry}")?))
 }
 
+/// The paths of two entries.
+fn both_below(
+    alloc: Global,
+    dir: &str,
+    entry: &str,
+    other: &str,
+) -> Result<(Text, Text), AllocError> {
+    let entry = below(alloc, dir, entry)?;
+    Ok((entry, below(alloc, dir, other)?))
+}
+
+/// The path of the folder of blobs, and room for that of any blob.
+fn blobs_below(alloc: Global, dir: &str) -> Result<(Text, String), AllocError>
+    ensures { IfOk result (λ r. length r.0 + 129 ≤ string_capacity r.1) }
+{
+    let blobs = below(alloc, dir, "blobs")?;
+    let longest = blobs.len().checked_add(1 + LONGEST_NAME).ok_or(AllocError)?;
+    let aimed = String::with_capacity(alloc, longest)?;
+    Ok((blobs, aimed))
+}
+
 impl Paths {
     ghost use Rattle.esr_dirdepot.specs.Names.{leads_inside, path_below};
 
     pub fn new(alloc: Global, dir: &str) -> Result<Paths, AllocError> {
         let dir = trimmed(dir);
-        let blobs = below(alloc, dir, "blobs")?;
-        let longest = blobs.len().checked_add(1 + LONGEST_NAME).ok_or(AllocError)?;
+        let (blobs, aimed) = blobs_below(alloc, dir)?;
+        let (lock, stages) = both_below(alloc, dir, "lock", "stage")?;
+        let (record, next_record) = both_below(alloc, dir, "record", "stage/record")?;
         Ok(Paths {
             dir: Text::from_str(alloc, dir)?,
-            lock: below(alloc, dir, "lock")?,
+            lock,
             blobs,
-            stages: below(alloc, dir, "stage")?,
-            record: below(alloc, dir, "record")?,
-            next_record: below(alloc, dir, "stage/record")?,
-            aimed: String::with_capacity(alloc, longest)?,
+            stages,
+            record,
+            next_record,
+            aimed,
         })
     }
 

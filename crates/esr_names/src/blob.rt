@@ -39,12 +39,14 @@ fn put(out: &mut [u8], at: usize, bytes: &[u8]) -> usize
     end
 }
 
-fn put_id(out: &mut [u8], at: usize, id: Id) -> usize
-    requires { at + 22 ≤ length out.old }
-    ensures end { result ≡ at + 22 }
-    ensures text { take result out.new ≡ take at out.old ++ text_of_id id }
+/// Writes a text and the text of an id.
+fn put_id(out: &mut [u8], at: usize, text: &[u8], id: Id) -> usize
+    requires { at + length text.now + 22 ≤ length out.old }
+    ensures end { result ≡ at + length text.now + 22 }
+    ensures text { take result out.new ≡ (take at out.old ++ text.now) ++ text_of_id id }
     ensures range { IsId id }
 {
+    let at = put(out, at, text);
     put(out, at, &id_text(id))
 }
 
@@ -64,20 +66,20 @@ fn put_folder(out: &mut [u8], shard: &ShardId) -> usize
     ensures text { (rest : List ℕ) → take result out.new ++ rest ≡ below shard.now rest }
     ensures range { IsId shard.now.index }
 {
-    let at = put(out, 0, b"indices/");
-    let at = put_id(out, at, shard.index);
+    let at = put_id(out, 0, b"indices/", shard.index);
     let at = put(out, at, b"/");
     let at = put_number(out, at, u64::from(shard.number));
     put(out, at, b"/")
 }
 
-fn put_dat(out: &mut [u8], at: usize, id: Id) -> usize
-    requires { at + 26 ≤ length out.old }
-    ensures end { result ≡ at + 26 }
-    ensures text { take result out.new ≡ take at out.old ++ (text_of_id id ++ codes ".dat") }
+/// Writes a text, the text of an id, and `.dat`.
+fn put_dat(out: &mut [u8], at: usize, text: &[u8], id: Id) -> usize
+    requires { at + length text.now + 26 ≤ length out.old }
+    ensures end { result ≡ at + length text.now + 26 }
+    ensures text { take result out.new ≡ (take at out.old ++ text.now) ++ (text_of_id id ++ codes ".dat") }
     ensures range { IsId id }
 {
-    let at = put_id(out, at, id);
+    let at = put_id(out, at, text, id);
     put(out, at, b".dat")
 }
 
@@ -94,50 +96,36 @@ pub fn print_name(name: &BlobName, out: &mut [u8; 128]) -> usize
             put_number(out, at, *n)
         }
         BlobName::Latest => put(out, 0, b"index.latest"),
-        BlobName::Snap(snap) => {
-            let at = put(out, 0, b"snap-");
-            put_dat(out, at, *snap)
-        }
-        BlobName::Meta(snap) => {
-            let at = put(out, 0, b"meta-");
-            put_dat(out, at, *snap)
-        }
+        BlobName::Snap(snap) => put_dat(out, 0, b"snap-", *snap),
+        BlobName::Meta(snap) => put_dat(out, 0, b"meta-", *snap),
         BlobName::IndexMeta(index, snap) => {
-            let at = put(out, 0, b"indices/");
-            let at = put_id(out, at, *index);
-            let at = put(out, at, b"/meta-");
-            put_dat(out, at, *snap)
+            let at = put_id(out, 0, b"indices/", *index);
+            put_dat(out, at, b"/meta-", *snap)
         }
         BlobName::ShardSnap(shard, snap) => {
             let at = put_folder(out, shard);
-            let at = put(out, at, b"snap-");
-            put_dat(out, at, *snap)
+            put_dat(out, at, b"snap-", *snap)
         }
         BlobName::ShardIndex(shard, generation) => {
             let at = put_folder(out, shard);
-            let at = put(out, at, b"index-");
-            put_id(out, at, *generation)
+            put_id(out, at, b"index-", *generation)
         }
         BlobName::Whole(shard, file) => {
             let at = put_folder(out, shard);
-            let at = put(out, at, b"__");
-            put_id(out, at, *file)
+            put_id(out, at, b"__", *file)
         }
         BlobName::Part(shard, file, part) => {
             let at = put_folder(out, shard);
-            let at = put(out, at, b"__");
-            let at = put_id(out, at, *file);
+            let at = put_id(out, at, b"__", *file);
             let at = put(out, at, b".part");
             put_number(out, at, *part)
         }
         BlobName::TestMaster(test) => {
-            let at = put(out, 0, b"tests-");
-            let at = put_id(out, at, *test);
+            let at = put_id(out, 0, b"tests-", *test);
             put(out, at, b"/master.dat")
         }
         BlobName::TestNode(test, worker) => {
-            let at = put(out, 0, b"tests-");
-            let at = put_id(out, at, *test);
+            let at = put_id(out, 0, b"tests-", *test);
             let at = put(out, at, b"/data-w");
             let at = put_number(out, at, u64::from(*worker));
             put(out, at, b".dat")

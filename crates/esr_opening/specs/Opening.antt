@@ -1,48 +1,25 @@
 -- What the opening of a container does.
 use Rattle.std.specs.Prelude.{◌≡◌, ◌⊎◌, ℕ, ◌+◌, ◌-◌, ◌^◌, ◌<◌, ◌≤◌, Bool, true, false, List, length, Option, Some, None, Ok, Err}
 use Rattle.std.specs.FinMap as fin
-use Rattle.esr_model.specs.Values.{Bytes, ReadsBack}
+use Rattle.esr_model.specs.Values.{Bytes}
 use Rattle.esr_model.specs.Shelf.{Shelved}
-use Rattle.esr_model.specs.Image.{Blobs, Image}
+use Rattle.esr_model.specs.Image.{Blobs}
 use Rattle.esr_model.specs.Kept.{Kept as IsKept}
 use Rattle.esr_core.specs.World.{World, record_of, opened, Opened}
-use Rattle.esr_core.specs.Allowed.{NoCleanup}
-use Rattle.esr_core.specs.Tracked.{Tracked}
-use Rattle.esr_core.specs.Ranked.{Ranked}
 use Rattle.esr_depot.specs.Image.{Image as Held, with_text}
 use Rattle.esr_depot.specs.Look.{Look, now}
 use Rattle.esr_depot.specs.Calls.{HasCause}
 use Rattle.esr_depot.specs.Moments.{LeavesOnly}
 use Rattle.esr_root.specs.Root.{Root}
 use Rattle.esr_record.specs.Record.{Record}
-use Rattle.esr_meta.specs.Info.{Info}
 use Rattle.esr_formats.specs.Formats.{formats}
 use Rattle.esr_formats.specs.Roots.{root_of}
 use Rattle.esr_formats.specs.Clusters.{cluster_of, cluster_kind}
-use Rattle.esr_ops.specs.Plan.{Plan, IsPlanOf}
+pub use Rattle.esr_progress.specs.Kept.{image_of, Kept, IsKeptOf, IsInOrder}
 use Rattle.esr_progress.specs.Infos.{AreInfosOf}
 use Rattle.esr_opening.specs.Found.{Damage, LastTerm, found}
 use Rattle.esr_opening.specs.declared.refusal.OpenRefusal.{OpenRefusal}
 use Rattle.esr_opening.specs.declared.refusal.OpenRefusal.TheVariants as refusals
-
--- an image of the container, as the definitions see it
-abbrev pub image_of : Held → Image
-image_of i = record { blobs = i.blobs; text = i.text }
-
--- what a repository keeps of the world, apart from the container
-pub record Kept : Type 0 where
-  pub cluster : Record
-  pub root : Root
-  pub infos : List Info
-  pub plan : Plan
-  pub next : ℕ
-
--- it is that of the world
-pub record IsKeptOf (w : World) (k : Kept) : Type 0 where
-  pub cluster : cluster_of k.cluster ≡ record_of w
-  pub root : root_of k.root ≡ w.root
-  pub plan : IsPlanOf w k.plan
-  pub next : k.next ≡ w.next_id
 
 -- ---- the opened world
 
@@ -63,14 +40,6 @@ world_in held cluster root = opened (known_blobs held) (cluster_of cluster) (roo
 -- the text of its record
 abbrev pub opened_text : Record → Root → Bytes
 opened_text cluster root = cluster_kind.text (record_of (opened fin.empty (cluster_of cluster) (root_of root)))
-
--- what holds of it, whatever the container tells
-pub record IsInOrder (w : World) : Type 0 where
-  pub record_back : ReadsBack cluster_kind (record_of w)
-  pub tracked : Tracked w
-  pub ranked : Ranked w
-  pub no_cleanups : NoCleanup w
-  pub few : w.next_op ≤ 2 ^ 61
 
 -- what a crash in the opening may leave: all as it was, or with the opened world's record
 abbrev pub IsLeftOf : Option Held → Record → Root → Held → Type 0

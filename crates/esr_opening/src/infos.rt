@@ -17,12 +17,10 @@ use esr_depot::Depot;
 use esr_formats::{read_info, write_name};
 use esr_meta::SnapInfo;
 use esr_names::BlobName;
+use esr_progress::SnapInfos;
 use esr_root::{RootData, RootSnap};
-use esr_seq::{Bytes, Seq, Text};
+use esr_seq::{Bytes, Text};
 use std::alloc::Global;
-
-/// Infos of snapshots, in order.
-pub type SnapInfos = Seq<SnapInfo>;
 
 /// The info of these bytes.
 fn parse_info<F>(

@@ -12,7 +12,7 @@ mod refusal;
 mod root;
 mod term;
 
-pub use infos::SnapInfos;
+pub use esr_progress::{Opening, SnapInfos};
 pub use laws::kept_images_open;
-pub use opening::{Opening, open_container};
+pub use opening::open_container;
 pub use refusal::{OpenRefusal, Why};

@@ -12,31 +12,18 @@ ghost use Rattle.esr_opening.specs.Spent.{has_fault, Spends};
 ghost use Rattle.esr_opening.specs.Terms.{IsFit};
 ghost use Rattle.esr_opening.specs.declared.refusal.OpenRefusal.TheVariants.{DepotFault};
 
+use crate::OpenRefusal;
 use crate::laws::opened_worlds_are_in_order;
 use crate::own::check_own;
 use crate::record::find_record;
 use crate::root::find_whole_root;
 use crate::term::{begin_term, next_of};
-use crate::{OpenRefusal, SnapInfos};
 use esr_depot::Depot;
 use esr_names::Id;
-use esr_progress::Progress;
+use esr_progress::{Opening, Progress, SnapInfos};
 use esr_record::ClusterRecord;
 use esr_root::RootData;
 use std::alloc::Global;
-
-/// A container that was opened, with what a repository keeps of it at its start: the record of the new term, the safe
-/// root and the infos of its snapshots, the list of the deletes that are open, and the first id of the term.
-#[derive(Drop)]
-pub struct Opening<D: Depot> {
-    pub depot: D,
-    pub cluster: ClusterRecord,
-    pub root: RootData,
-    /// The infos of the listed snapshots, in the root's order.
-    pub infos: SnapInfos,
-    pub progress: Progress,
-    pub next: Id,
-}
 
 /// Opens a container: one into which nothing was written, or one that an earlier run left. It reads the record, the safe
 /// root and the info of each snapshot that it lists, and refuses the first that is damaged; then one swap of the record

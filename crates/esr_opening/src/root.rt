@@ -10,11 +10,12 @@ ghost use Rattle.esr_opening.specs.Spent.{has_fault, Spends};
 ghost use Rattle.esr_opening.specs.Terms.{safe_place, whole_root_in};
 
 use crate::blob::{fetch_blob, unread};
-use crate::infos::{SnapInfos, check_infos};
+use crate::infos::check_infos;
 use crate::{OpenRefusal, Why};
 use esr_depot::Depot;
 use esr_formats::{read_root, write_name};
 use esr_names::BlobName;
+use esr_progress::SnapInfos;
 use esr_root::RootData;
 use esr_seq::{Bytes, Text};
 use std::alloc::Global;

@@ -63,6 +63,20 @@ valid-same ops os deletes ds next restores rs a b c h =
     (subst (λ (x : List (ℕ × Deletion)). IsProgress ops x next rs) (sym b)
     (subst (λ (x : List (ℕ × RestorePlan)). IsProgress ops deletes next x) (sym c) h))
 
+-- a list with the entries that it has is the same
+pub plan-same : (ops os : List (ℕ × Op)) (deletes ds : List (ℕ × Deletion)) (completed : List ℕ) (seats : TicketMaps) (next : ℕ) (restores rs : List (ℕ × RestorePlan)) → os ≡ ops → ds ≡ deletes → rs ≡ restores
+    → (p : Plan) → plan_with ops deletes completed seats next restores ≡ p → record p { ops = fin.from_entries os; deletes = fin.from_entries ds; restores = fin.from_entries rs; next_op = next } ≡ p
+plan-same ops os deletes ds completed seats next restores rs a b c p view =
+    subst (λ (q : Plan). record q { ops = fin.from_entries os; deletes = fin.from_entries ds; restores = fin.from_entries rs; next_op = next } ≡ q) view (λ j. plan_with (a j) (b j) completed seats next (c j))
+
+-- with other ops and deletes, and the restores that it has
+pub plan-kept : (ops new : List (ℕ × Op)) (deletes kept : List (ℕ × Deletion)) (completed : List ℕ) (seats : TicketMaps) (next after : ℕ) (restores rs : List (ℕ × RestorePlan)) → rs ≡ restores
+    → (p : Plan) → plan_with ops deletes completed seats next restores ≡ p
+    → record p { ops = fin.from_entries new; deletes = fin.from_entries kept; restores = fin.from_entries rs; next_op = after } ≡ record p { ops = fin.from_entries new; deletes = fin.from_entries kept; next_op = after }
+plan-kept ops new deletes kept completed seats next after restores rs c p view =
+    subst (λ (q : Plan). record q { ops = fin.from_entries new; deletes = fin.from_entries kept; restores = fin.from_entries rs; next_op = after } ≡ record q { ops = fin.from_entries new; deletes = fin.from_entries kept; next_op = after })
+    view (λ j. plan_with new kept completed seats after (c j))
+
 -- ---- a restore more
 
 module _ (ops : List (ℕ × Op)) (deletes : List (ℕ × Deletion)) (completed : List ℕ) (seats : TicketMaps) (next : ℕ) (restores new : List (ℕ × RestorePlan)) (h : IsProgress ops deletes next restores) where

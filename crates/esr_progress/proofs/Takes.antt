@@ -25,7 +25,7 @@ use Rattle.esr_ops.specs.Numbers.{entries_from}
 
 -- ---- a ticket more
 
-module _ (ops new : List (ℕ × Op)) (deletes kept : List (ℕ × Deletion)) (completed after : List ℕ) (seats more : TicketMaps) (next : ℕ)
+module _ (ops new : List (ℕ × Op)) (deletes kept : List (ℕ × Deletion)) (completed : List ℕ) (seats : TicketMaps) (next : ℕ)
     (restores stay : List (ℕ × RestorePlan)) (now : Plan) (is : plan_with ops deletes completed seats next restores ≡ now) (same : kept ≡ deletes) (stays : stay ≡ restores) where
   pub progress_with : IsProgress ops deletes next restores → numbers_of new ≡ numbers_of (fin.entries now.ops) → IsProgress new kept next stay
   progress_with h e =
@@ -39,14 +39,19 @@ module _ (ops new : List (ℕ × Op)) (deletes kept : List (ℕ × Deletion)) (c
         most = h.most;
       }
 
-  pub plan_seated : (s : Seat) → after ≡ completed → more ≡ record seats { seats = fin.insert seats.seats seats.next s; next = suc seats.next }
-      → plan_with new kept after more next stay ≡ record now { ops = fin.from_entries new; seats = fin.insert now.seats now.next_ticket s; next_ticket = suc now.next_ticket }
-  plan_seated s done given =
-      (λ i. plan_with new (same i) (done i) (given i) next (stays i))
-      ∙ ap (λ (p : Plan). record p { ops = fin.from_entries new; seats = fin.insert p.seats p.next_ticket s; next_ticket = suc p.next_ticket }) is
+  pub plan_seated : (copy : Plan) (s : Seat) → copy ≡ record now { ops = fin.from_entries new; deletes = fin.from_entries kept; restores = fin.from_entries stay; next_op = next }
+      → record copy { seats = fin.insert copy.seats copy.next_ticket s; next_ticket = suc copy.next_ticket }
+      ≡ record now { ops = fin.from_entries new; seats = fin.insert now.seats now.next_ticket s; next_ticket = suc now.next_ticket }
+  plan_seated copy s e =
+      ap (λ (p : Plan). record p { seats = fin.insert p.seats p.next_ticket s; next_ticket = suc p.next_ticket }) e
+      ∙ subst
+      (λ (p : Plan). record p { ops = fin.from_entries new; deletes = fin.from_entries kept; restores = fin.from_entries stay; next_op = next; seats = fin.insert p.seats p.next_ticket s; next_ticket = suc p.next_ticket }
+      ≡ record p { ops = fin.from_entries new; seats = fin.insert p.seats p.next_ticket s; next_ticket = suc p.next_ticket })
+      is
+      (λ j. plan_with new (same j) completed (record seats { seats = fin.insert seats.seats seats.next s; next = suc seats.next }) next (stays j))
 
 -- a restore's ticket more
-module _ (ops kept_ops : List (ℕ × Op)) (deletes kept : List (ℕ × Deletion)) (completed after : List ℕ) (seats more : TicketMaps)
+module _ (ops kept_ops : List (ℕ × Op)) (deletes kept : List (ℕ × Deletion)) (completed : List ℕ) (seats : TicketMaps)
     (next : ℕ) (restores new : List (ℕ × RestorePlan)) (now : Plan) (is : plan_with ops deletes completed seats next restores ≡ now)
     (same_ops : kept_ops ≡ ops) (same : kept ≡ deletes) where
   pub progress_read : IsProgress ops deletes next restores → numbers_of new ≡ numbers_of (fin.entries now.restores) → IsProgress kept_ops kept next new
@@ -61,11 +66,16 @@ module _ (ops kept_ops : List (ℕ × Op)) (deletes kept : List (ℕ × Deletion
         most = h.most;
       }
 
-  pub plan_read : (s : ReaderSeat) → after ≡ completed → more ≡ record seats { readers = fin.insert seats.readers seats.next s; next = suc seats.next }
-      → plan_with kept_ops kept after more next new ≡ record now { restores = fin.from_entries new; readers = fin.insert now.readers now.next_ticket s; next_ticket = suc now.next_ticket }
-  plan_read s done given =
-      (λ i. plan_with (same_ops i) (same i) (done i) (given i) next new)
-      ∙ ap (λ (p : Plan). record p { restores = fin.from_entries new; readers = fin.insert p.readers p.next_ticket s; next_ticket = suc p.next_ticket }) is
+  pub plan_read : (copy : Plan) (s : ReaderSeat) → copy ≡ record now { ops = fin.from_entries kept_ops; deletes = fin.from_entries kept; restores = fin.from_entries new; next_op = next }
+      → record copy { readers = fin.insert copy.readers copy.next_ticket s; next_ticket = suc copy.next_ticket }
+      ≡ record now { restores = fin.from_entries new; readers = fin.insert now.readers now.next_ticket s; next_ticket = suc now.next_ticket }
+  plan_read copy s e =
+      ap (λ (p : Plan). record p { readers = fin.insert p.readers p.next_ticket s; next_ticket = suc p.next_ticket }) e
+      ∙ subst
+      (λ (p : Plan). record p { ops = fin.from_entries kept_ops; deletes = fin.from_entries kept; restores = fin.from_entries new; next_op = next; readers = fin.insert p.readers p.next_ticket s; next_ticket = suc p.next_ticket }
+      ≡ record p { restores = fin.from_entries new; readers = fin.insert p.readers p.next_ticket s; next_ticket = suc p.next_ticket })
+      is
+      (λ j. plan_with (same_ops j) (same j) completed (record seats { readers = fin.insert seats.readers seats.next s; next = suc seats.next }) next new)
 
 -- ---- the root's generation
 

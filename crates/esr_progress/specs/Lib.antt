@@ -1,6 +1,7 @@
 pub mod Aborts
 pub mod Codes
 pub mod Infos
+pub mod Kept
 pub mod Changes
 pub mod Choice
 pub mod Plans

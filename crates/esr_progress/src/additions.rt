@@ -1,5 +1,5 @@
 //! What a command that is accepted makes of the list.
-ghost use Rattle.std.specs.Prelude.{◌≡◌, ◌<◌, ◌^◌, ◌++◌, [], ◌∷◌, suc, IfOk, OnOk, if◌then◌else◌};
+ghost use Rattle.std.specs.Prelude.{◌≡◌, ◌<◌, ◌^◌, ◌++◌, [], ◌∷◌, suc, IfOk, OnErr, OnOk, if◌then◌else◌};
 ghost use Rattle.std.specs.FinMap as fin;
 ghost use Rattle.std.specs.List.{list_any};
 ghost use Rattle.esr_core.specs.Steps.{completing};
@@ -37,9 +37,24 @@ impl Progress {
         requires { IsProgress ops.items deletes.items next_op (fin.entries self.now.restores) }
         ensures { IfOk result (λ p. p ≡ record self.now { ops = fin.from_entries ops.items; deletes = fin.from_entries deletes.items; next_op = next_op }) }
     {
+        let restores = copy_restores(alloc, &self.restores)?;
+        self.with_entries(alloc, ops, deletes, restores, next_op)
+    }
+
+    /// A copy with these ops, deletes and restores.
+    pub(crate) fn with_entries(
+        &self,
+        alloc: Global,
+        ops: Vec<OpenOp>,
+        deletes: Vec<OpenDelete>,
+        restores: Vec<OpenRestore>,
+        next_op: u64,
+    ) -> Result<Progress, AllocError>
+        requires { IsProgress ops.items deletes.items next_op restores.items }
+        ensures { IfOk result (λ p. p ≡ record self.now { ops = fin.from_entries ops.items; deletes = fin.from_entries deletes.items; restores = fin.from_entries restores.items; next_op = next_op }) }
+    {
         let completed = Vec::from_slice(alloc, self.completed.as_slice())?;
         let tickets = self.tickets.try_clone(alloc)?;
-        let restores = copy_restores(alloc, &self.restores)?;
         Ok(Progress {
             ops,
             deletes,
@@ -75,7 +90,8 @@ fn note_completed(completed: &mut Vec<u64>, op: &OpenOp) -> Result<(), AllocErro
 
 /// Appends a restore some shard of which waits.
 fn push_waiting(restores: &mut Vec<OpenRestore>, restore: OpenRestore) -> Result<(), AllocError>
-    ensures { OnOk result (restores.new.items ≡ (if list_any is_waiting restore.1.shards then restores.old.items ++ restore ∷ [] else restores.old.items)) }
+    ensures ok { OnOk result (restores.new.items ≡ (if list_any is_waiting restore.1.shards then restores.old.items ++ restore ∷ [] else restores.old.items)) }
+    ensures err { OnErr result (restores.new.items ≡ restores.old.items) }
 {
     if !restore.waits() {
         return Ok(());

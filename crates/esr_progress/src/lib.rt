@@ -7,6 +7,7 @@ mod cleanup;
 mod infos;
 mod law;
 mod next_delete;
+mod opening;
 mod progress;
 mod ready;
 mod reopen;
@@ -14,7 +15,9 @@ mod reports;
 mod tickets;
 
 pub use cleanup::lowest_open;
+pub use infos::{SnapInfos, info_copy};
 pub use law::others_leave_the_list;
+pub use opening::Opening;
 pub use progress::{OpenLists, Progress, copy_deletes};
 pub use ready::copy_ops;
 pub use tickets::Tickets;

@@ -46,12 +46,12 @@ impl Progress {
         let unit = ReadyUnit {
             ticket,
             op: delete.number(),
-            work: delete.work(alloc)?,
             copy: Copied {
                 safe,
                 root: root.try_clone(alloc)?,
                 base: None,
             },
+            work: delete.work(alloc)?,
         };
         let ops = copy_ops(alloc, &self.ops)?;
         Ok(Some((

@@ -3,6 +3,7 @@ ghost use Rattle.std.specs.Prelude.{◌≡◌, ◌==◌, ◌<◌, ◌+◌, ◌^�
 ghost use Rattle.esr_ops.specs.Plan.{no_plan};
 ghost use Rattle.esr_ops.specs.Inside.{plan_with, IsProgress};
 
+use crate::ready::copy_ops;
 use crate::tickets::Tickets;
 use esr_ops::{OpenDelete, OpenOp, OpenRestore};
 use std::alloc::{AllocError, Global};
@@ -10,7 +11,6 @@ use std::marker::Model;
 
 /// The open ops, deletes and restores by number, the numbers of ops in the order in which they completed, and the tickets that
 /// are out.
-#[derive(Drop)]
 pub struct Progress {
     pub(crate) ops: Vec<OpenOp>,
     pub(crate) deletes: Vec<OpenDelete>,
@@ -18,6 +18,20 @@ pub struct Progress {
     pub(crate) tickets: Tickets,
     pub(crate) next_op: u64,
     pub(crate) restores: Vec<OpenRestore>,
+}
+
+impl Drop for Progress {
+    // Not derived: an early exit that owns a list then has one call, and not the drop of each part.
+    fn drop(self) {
+        let Progress {
+            ops: _ops,
+            deletes: _deletes,
+            completed: _completed,
+            tickets: _tickets,
+            next_op: _,
+            restores: _restores,
+        } = self;
+    }
 }
 
 /// What a list holds, to be looked up.
@@ -89,20 +103,10 @@ impl Progress {
     pub fn copy(&self, alloc: Global) -> Result<Progress, AllocError>
         ensures { IfOk result (λ p. p ≡ self.now) }
     {
-        let mut ops = Vec::with_capacity(alloc, self.ops.len())?;
-        for op in &self.ops {
-            ops.push(op.try_clone(alloc)?)?;
-        }
+        let ops = copy_ops(alloc, &self.ops)?;
         let deletes = copy_deletes(alloc, &self.deletes)?;
         let restores = copy_restores(alloc, &self.restores)?;
-        Ok(Progress {
-            ops,
-            deletes,
-            completed: Vec::from_slice(alloc, self.completed.as_slice())?,
-            tickets: self.tickets.try_clone(alloc)?,
-            next_op: self.next_op,
-            restores,
-        })
+        self.with_entries(alloc, ops, deletes, restores, self.next_op)
     }
 }
 

@@ -102,12 +102,12 @@ impl Progress {
         let unit = ReadyUnit {
             ticket,
             op: restore.number(),
-            work: restore.work(alloc, i)?,
             copy: Copied {
                 safe,
                 root: root.try_clone(alloc)?,
                 base: None,
             },
+            work: restore.work(alloc, i)?,
         };
         let restores = given_restores(alloc, &self.restores, at, shard, ticket)?;
         Ok(Some((self.with_reader(alloc, restores, unit.op, shard)?, unit)))
@@ -129,16 +129,11 @@ impl Progress {
           next_ticket = suc self.now.next_ticket;
         }) }
     {
-        let mut tickets = self.tickets.try_clone(alloc)?;
-        tickets.give_reader(ReaderSeat { op, shard })?;
-        Ok(Progress {
-            ops: copy_ops(alloc, &self.ops)?,
-            deletes: copy_deletes(alloc, &self.deletes)?,
-            completed: Vec::from_slice(alloc, self.completed.as_slice())?,
-            tickets,
-            next_op: self.next_op,
-            restores,
-        })
+        let ops = copy_ops(alloc, &self.ops)?;
+        let deletes = copy_deletes(alloc, &self.deletes)?;
+        let mut new = self.with_entries(alloc, ops, deletes, restores, self.next_op)?;
+        new.tickets.give_reader(ReaderSeat { op, shard })?;
+        Ok(new)
     }
 
     /// The first ready unit of the lowest snapshot.
@@ -169,12 +164,12 @@ impl Progress {
         let unit = ReadyUnit {
             ticket,
             op: op.number(),
-            work: work_of(alloc, op, kind)?,
             copy: Copied {
                 safe,
                 root: root.try_clone(alloc)?,
                 base: base_of(root, &self.ops, seat),
             },
+            work: work_of(alloc, op, kind)?,
         };
         let ops = given_ops(alloc, &self.ops, at, seat, ticket)?;
         Ok(Some((
@@ -201,9 +196,10 @@ impl Progress {
           next_ticket = suc self.now.next_ticket;
         }) }
     {
+        let deletes = copy_deletes(alloc, &self.deletes)?;
         let restores = copy_restores(alloc, &self.restores)?;
-        let mut tickets = self.tickets.try_clone(alloc)?;
-        tickets.give(Seat {
+        let mut new = self.with_entries(alloc, ops, deletes, restores, self.next_op)?;
+        new.tickets.give(Seat {
             kind,
             clean,
             op,
@@ -211,14 +207,7 @@ impl Progress {
             raised: None,
             settled: false,
         })?;
-        Ok(Progress {
-            ops,
-            deletes: copy_deletes(alloc, &self.deletes)?,
-            completed: Vec::from_slice(alloc, self.completed.as_slice())?,
-            tickets,
-            next_op: self.next_op,
-            restores,
-        })
+        Ok(new)
     }
 }
 

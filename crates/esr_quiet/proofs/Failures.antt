@@ -31,8 +31,8 @@ use Rattle.esr_quiet.proofs.Prefixes.{told_at}
 use Rattle.esr_quiet.specs.QuietWorlds.{IsSteadyAt}
 use Rattle.esr_quiet.proofs.Bases.{is_there, does_read, not_ahead}
 use Rattle.esr_quiet.proofs.Sources.{source_there, source_reads}
-use Rattle.esr_quiet.specs.Askers.{no_abort_rule}
-use Rattle.esr_quiet.proofs.Rules.{ruled_at, no_rule}
+use Rattle.esr_quiet.specs.RuleLaws.{never_rule}
+use Rattle.esr_quiet.proofs.Rules.{ruled_at}
 
 -- ---- what a step tells
 
@@ -208,14 +208,14 @@ module _ (s : Start) (log : List Moment) (smooth : IsSmooth s log) (prefixes : P
   untaken front back is who name h =
       let r = had front back is who (NameTaken name) h in
       let x = ruled_at s log smooth prefixes r.0 (NameTaken name) r.1 r.2 (λ own now e. cc) in
-      no_rule x.0 name x.1
+      never_rule x.0 (NameTaken name) refl x.1
 
   -- no delete aborts an op whose ticket is out
   unaborted : (front back : List Moment) → log ≡ front ++ back → (who op : ℕ) → HadRefusal front who (AbortedBy op) → ⊥
   unaborted front back is who op h =
       let r = had front back is who (AbortedBy op) h in
       let x = ruled_at s log smooth prefixes r.0 (AbortedBy op) r.1 r.2 (λ own now e. cc) in
-      no_abort_rule x.0 op x.1
+      never_rule x.0 (AbortedBy op) refl x.1
 
   -- and no number is spent
   pub unspent : (front back : List Moment) → log ≡ front ++ back → (who : ℕ) (refusal : Refusal) → IsSpent (Refused refusal) → HadRefusal front who refusal → ⊥

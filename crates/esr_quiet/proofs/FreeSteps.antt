@@ -423,7 +423,7 @@ module _ (f : Formats) (size : ℕ) (w : World) (shelf : List Shelved) (law : La
   free_by who step reply image calm i told (allowed.Reading k read rep im h same) = reads k read rep im calm h same
   free_by who step reply image calm i told (allowed.Verifying read rep im h) = verifies read rep im calm i told h
   free_by who step reply image calm i told (allowed.Pruning k prune rep im h) = prunes f w shelf law l alone k prune rep im calm i told h
-  free_by who step reply image calm i told (allowed.Cleaning c d x im recorded there clean same) = anew im same no_caller refl refl
+  free_by who step reply image calm i told (allowed.Cleaning c d x im recorded untaken there clean same) = anew im same no_caller refl refl
   free_by who step reply image calm i told (allowed.Used name indices time uuid im clear is same) = anew im same no_caller refl refl
   free_by who step reply image calm i told (allowed.Full name indices time im clear unused full same) = anew im same no_caller refl refl
   free_by who step reply image calm i told (allowed.AskSpent name indices time im clear unused room spent same) = anew im same no_caller refl refl

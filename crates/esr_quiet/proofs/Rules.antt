@@ -6,7 +6,7 @@ use Rattle.esr_model.specs.Values.{Bytes, Has, Formats}
 use Rattle.esr_model.specs.Image.{Image, Present}
 use Rattle.esr_core.specs.World.{World, Ticket}
 use Rattle.esr_core.specs.Steps.{IsOut}
-use Rattle.esr_core.specs.Entry.{Asked, Snapshot, Clone, CloneOf, DeleteSnapshots, Restore, Cleanup, is_recorded, Read, CommitTest, Prune, SettlePruned, Step, AskStep, CommitStep, RaiseStep, SettleStep, DroppedStep, ReadStep, PruneStep, CleanupRunning, StaleTerm, NameTaken, Refusal, Reply, Refused, DepotFault, Moment}
+use Rattle.esr_core.specs.Entry.{Asked, Snapshot, Clone, CloneOf, DeleteSnapshots, Restore, Cleanup, is_recorded, Read, CommitTest, Prune, SettlePruned, Step, AskStep, CommitStep, RaiseStep, SettleStep, DroppedStep, ReadStep, PruneStep, CleanupRunning, StaleTerm, Refusal, Reply, Refused, DepotFault, Moment}
 use Rattle.esr_core.specs.Allowed as allowed
 use Rattle.esr_core.specs.Allowed.{Told, IsMetadata, CloneAllows, OpeningClone, CloneUsed, SourceNotListed, SourceDeleted, IndexMissing, FullOfClones, CloneSpent, CloneFault, DeleteAllows, GoingInto, NotNamed, CloneStands, RestoreStands, FullOfOps, DeleteFault, CleanupAllows, OpeningCleanup, OpStands, TicketStands, CleanupFault, RestoreAllows, OpeningRestore, NotListed, NamedByDelete, FullOfRestores, ReadAllows, ReadFound, ReadMissing, ReadFault, RestoringShard, ReaderFailing, CheckingAll, CheckFailing, VerifyAllows, DrawingTest, TestSpent, BeginningTest, BeginTestFails, CommittingTest, TestTaken, CommitTestFails, RemovingTests, RemoveTestsFails, VerifyingAll, VerifyFailing, PruneAllows, FetchingShard, ShardMissing, FetchShardFails, Planning, PlanSpent, SettlingDelete, SettleDeleteStale, SettleDeleteFails, RemovingDoomed, RemoveDoomedFails, EndingDelete, FailingDelete, Allows}
 use Rattle.esr_desk.specs.Start.{Start, formats_of, world_of, or_no_ticket}
@@ -149,7 +149,7 @@ module _ (s : Start) (log : List Moment) (f : Formats) (size : ℕ) (w : World) 
   ruled who step reply image i told calm unspent new new_test apart_ask (allowed.Reading k read rep im h same) = reads k read rep im calm h
   ruled who step reply image i told calm unspent new new_test apart_ask (allowed.Verifying read rep im h) = verifies read rep im i told calm unspent new_test h
   ruled who step reply image i told calm unspent new new_test apart_ask (allowed.Pruning k prune rep im h) = prunes k prune rep im calm unspent h
-  ruled who step reply image i told calm unspent new new_test apart_ask (allowed.Cleaning command d x im recorded there clean same) = cleans command d recorded (q.cleanups d x there clean)
+  ruled who step reply image i told calm unspent new new_test apart_ask (allowed.Cleaning command d x im recorded untaken there clean same) = cleans command d recorded (q.cleanups d x there clean)
   ruled who step reply image i told calm unspent new new_test apart_ask (allowed.Used name indices moment uuid im clear is same) = inl ((Snapshot name indices moment, refl), tt, tt)
   ruled who step reply image i told calm unspent new new_test apart_ask (allowed.Full name indices moment im clear unused full same) = inl ((Snapshot name indices moment, refl), tt, tt)
   ruled who step reply image i told calm unspent new new_test apart_ask (allowed.AskSpent name indices moment im clear unused room spent same) = absurd (unspent tt)
@@ -218,11 +218,3 @@ module _ (s : Start) (log : List Moment) (smooth : IsSmooth s log) (prefixes : P
   ruled_at m refusal has reply other =
       let p = place_of log m has in
       elim (by_rule p.front p.back m refusal p.is reply) [ inl rule ↦ (rule.0.0, rule.1) | inr old ↦ absurd (other old.own old.now old.is) ]
-
--- so no name is taken
-pub no_rule : (command : Asked) (name : BlobName) → IsByRule command (NameTaken name) → ⊥
-no_rule (Snapshot of indices time) name h = h
-no_rule (Restore of place) name h = h
-no_rule (Clone source of names time taken) name h = h
-no_rule (DeleteSnapshots names) name h = h
-no_rule Cleanup name h = h

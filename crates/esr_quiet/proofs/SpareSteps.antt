@@ -516,7 +516,7 @@ module _ (f : Formats) (size : ℕ) (tried : ℕ → BlobName → Type 0) (w : W
   spare_by who step reply image mine i told (allowed.Reading k read rep im h same) = reads k read rep im h same
   spare_by who step reply image mine i told (allowed.Verifying read rep im h) = verifies read rep im i told h
   spare_by who step reply image mine i told (allowed.Pruning k prune rep im h) = prunes k prune rep im i told h
-  spare_by who step reply image mine i told (allowed.Cleaning c d x im recorded there clean same) = inr (still f tried w shelf law l im same)
+  spare_by who step reply image mine i told (allowed.Cleaning c d x im recorded untaken there clean same) = inr (still f tried w shelf law l im same)
   spare_by who step reply image mine i told (allowed.Used name indices time uuid im clear is same) = inr (still f tried w shelf law l im same)
   spare_by who step reply image mine i told (allowed.Full name indices time im clear unused full same) = inr (still f tried w shelf law l im same)
   spare_by who step reply image mine i told (allowed.AskSpent name indices time im clear unused room spent same) = inr (still f tried w shelf law l im same)

@@ -24,7 +24,8 @@ use Rattle.esr_quiet.specs.PrefixLaws.{place_of, quiet_at, legal_at}
 use Rattle.esr_quiet.proofs.Prefixes.{told_at}
 use Rattle.esr_quiet.proofs.Failures.{read_shown, step_shown, no_depot_fault}
 use Rattle.esr_quiet.proofs.Restores.{missed_at}
-use Rattle.esr_quiet.proofs.Rules.{ruled_at, no_rule}
+use Rattle.esr_quiet.specs.RuleLaws.{never_rule}
+use Rattle.esr_quiet.proofs.Rules.{ruled_at}
 use Rattle.esr_quiet.proofs.Texted.{by_verify, IsTexted, texted_at}
 
 -- a step that got this answer
@@ -97,7 +98,7 @@ module _ (s : Start) (log : List Moment) (smooth : IsSmooth s log) (prefixes : P
   untaken front back is c step name h =
       let r = replied log front back is c step (Refused (NameTaken name)) h in
       let x = ruled_at s log smooth prefixes r.moment (NameTaken name) r.there r.reply_is (λ own now e. cc) in
-      no_rule x.0 name x.1
+      never_rule x.0 (NameTaken name) refl x.1
 
   -- and no id is spent
   unspent : (front back : List Moment) → log ≡ front ++ back → (c : Caller) (next : ℕ) → HadNoId front c next → ⊥

@@ -2,11 +2,10 @@
 use Rattle.std.proofs.Common.{◌≡◌, ◌⊎◌, ℕ, inl, inr}
 use Rattle.esr_model.specs.Values.{Formats}
 use Rattle.esr_core.specs.World.{World}
-use Rattle.esr_core.specs.Entry.{Step, AskStep, ElectStep, Moment, Asked, Snapshot, Clone, DeleteSnapshots, Restore, Cleanup, AbortedBy}
+use Rattle.esr_core.specs.Entry.{Step, AskStep, ElectStep, Moment}
 use Rattle.esr_core.specs.Allowed.{Allowed, IsBlocked}
 use Rattle.esr_core.specs.Changes.{IsReaders, IsUnits, Maker, ClientStep, ReaderStep, UnitStep}
 use Rattle.esr_core.specs.Laws.Makers.{maker}
-use Rattle.esr_quiet.specs.Refusals.{IsByRule}
 
 -- it asks for a command, or elects a master
 abbrev pub AsksOrElects : Step → Type 0
@@ -34,11 +33,3 @@ asker f size w m a asks = elim (maker f size w m a) [
   | inl made ↦ inl (made_zero w m.entry.who m.entry.step made asks)
   | inr blocked ↦ inr blocked
 ]
-
--- and no delete aborts a step
-pub no_abort_rule : (command : Asked) (op : ℕ) → IsByRule command (AbortedBy op) → ⊥
-no_abort_rule (Snapshot of indices time) op h = h
-no_abort_rule (Restore of place) op h = h
-no_abort_rule (Clone source of names time taken) op h = h
-no_abort_rule (DeleteSnapshots names) op h = h
-no_abort_rule Cleanup op h = h

@@ -1,5 +1,5 @@
 -- The refusals that may come where nothing fails.
-use Rattle.std.specs.Prelude.{◌≡◌, ◌⊎◌, ℕ, List, ◌∷◌, ◌++◌}
+use Rattle.std.specs.Prelude.{◌≡◌, ◌⊎◌, ℕ, Bool, true, false, List, ◌∷◌, ◌++◌}
 use Rattle.esr_model.specs.Values.{Has}
 use Rattle.esr_core.specs.Entry.{Asked, Snapshot, Clone, DeleteSnapshots, Restore, Cleanup, SettlePruned, Step, AskStep, RaiseStep, SettleStep, DroppedStep, PruneStep, Refusal, CleanupRunning, NameInUse, TooMany, StaleTerm, NoSnapshot, NoIndex, BeingDeleted, CloneRunning, RestoreRunning, BusyOp, Refused, Moment}
 use Rattle.esr_desk.specs.Start.{Start}
@@ -51,6 +51,19 @@ IsByRule (Restore name place) refusal = RefusesRestore refusal
 IsByRule (Clone source name names moment taken) refusal = RefusesClone refusal
 IsByRule (DeleteSnapshots names) refusal = RefusesDelete refusal
 IsByRule Cleanup refusal = RefusesCleanup refusal
+
+-- the rules of some command give the refusal
+abbrev pub is_rule : Refusal → Bool
+is_rule (CleanupRunning op) = true
+is_rule (NameInUse uuid) = true
+is_rule (TooMany limit) = true
+is_rule (NoSnapshot place) = true
+is_rule (NoIndex place) = true
+is_rule (BeingDeleted op) = true
+is_rule (CloneRunning op) = true
+is_rule (RestoreRunning op) = true
+is_rule (BusyOp op) = true
+is_rule refusal = false
 
 -- a command was asked for
 abbrev pub IsOfCommand : Moment → Type 0

@@ -129,7 +129,7 @@ module _ (f : Formats) (size : ℕ) (w : World) (t : Tracked w) where
 
   restore_asked : (who : ℕ) (name place : Bytes) (reply : Reply) (image : Option Image) → Allows f size w who (AskStep (Restore name place)) reply image → Makes w (answered f w who (AskStep (Restore name place)) reply image)
   restore_asked who name place reply image (allowed.AskingRestore n p rep im h same) = asks n p rep im h
-  restore_asked who name place reply image (allowed.Cleaning command d x im recorded there clean same) = absurd (true≢false (sym recorded))
+  restore_asked who name place reply image (allowed.Cleaning command d x im recorded untaken there clean same) = absurd (true≢false (sym recorded))
 
   reading : (who : ℕ) (read : Read) (reply : Reply) (image : Option Image) → Allows f size w who (ReadStep read) reply image → Makes w (answered f w who (ReadStep read) reply image)
   reading who read reply image (allowed.Reading k r rep im h same) = reads k r rep im h
@@ -507,7 +507,7 @@ module _ (f : Formats) (size : ℕ) (w : World) (t : Tracked w) where
   restore_asked_leaves : (who : ℕ) (name place : Bytes) (reply : Reply) (image : Option Image) → Allows f size w who (AskStep (Restore name place)) reply image
       → (answered f w who (AskStep (Restore name place)) reply image).readers ≡ w.readers
   restore_asked_leaves who name place reply image (allowed.AskingRestore n p rep im h same) = restore_leaves f w n p rep im h
-  restore_asked_leaves who name place reply image (allowed.Cleaning command d x im recorded there clean same) = absurd (true≢false (sym recorded))
+  restore_asked_leaves who name place reply image (allowed.Cleaning command d x im recorded untaken there clean same) = absurd (true≢false (sym recorded))
 
   asked_leaves : (who : ℕ) (command : Asked) (reply : Reply) (image : Option Image) → Allows f size w who (AskStep command) reply image → (answered f w who (AskStep command) reply image).readers ≡ w.readers
   asked_leaves who command reply image a = by (is_recorded command) refl

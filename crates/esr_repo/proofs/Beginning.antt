@@ -9,7 +9,7 @@ use Rattle.esr_core.specs.Past.{entries_by}
 use Rattle.esr_depot.specs.Image.{Image as Held}
 use Rattle.esr_depot.specs.Look.{Look}
 use Rattle.esr_desk.specs.Start.{Start}
-use Rattle.esr_opening.specs.Opening.{Kept}
+use Rattle.esr_progress.specs.Kept.{Kept}
 use Rattle.esr_repo.specs.Repo.{AreTests, IsRepo}
 use Rattle.esr_repo.specs.Begun.{IsBegun}
 

@@ -545,7 +545,7 @@ module _ (f : Formats) (size : ℕ) (w : World) where
   allowed_kept who step reply image tests (allowed.AskingCleanup r im h same) plain = same_kept im same
   allowed_kept who step reply image tests (allowed.Verifying read r im h) plain = verified_kept read r im tests h
   allowed_kept who step reply image tests (allowed.Reading k read r im h same) plain = same_kept im same
-  allowed_kept who step reply image tests (allowed.Cleaning command d x im recorded there clean same) plain = same_kept im same
+  allowed_kept who step reply image tests (allowed.Cleaning command d x im recorded untaken there clean same) plain = same_kept im same
   allowed_kept who step reply image tests (allowed.Used name indices moment uuid im none used same) plain = same_kept im same
   allowed_kept who step reply image tests (allowed.Full name indices moment im none unused full same) plain = same_kept im same
   allowed_kept who step reply image tests (allowed.AskSpent name indices moment im none unused room spent same) plain = same_kept im same

@@ -8,7 +8,7 @@ use Rattle.esr_depot.specs.Image.{Image as Held}
 use Rattle.esr_depot.specs.Look.{Look, now}
 use Rattle.esr_progress.specs.Infos.{AreInfosOf}
 use Rattle.esr_desk.specs.Start.{Start, formats_of}
-use Rattle.esr_opening.specs.Opening.{image_of, Kept, IsKeptOf, IsInOrder}
+use Rattle.esr_progress.specs.Kept.{image_of, Kept, IsKeptOf, IsInOrder}
 use Rattle.esr_repo.specs.Repo.{TellsSo, AreListed, IsRoomy}
 
 -- What is kept is that of the world at the start, the container has that world's image, and what a crash might have left

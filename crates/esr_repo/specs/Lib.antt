@@ -18,3 +18,6 @@ pub mod Counted
 pub mod Deposed
 pub mod KeptFaults
 pub mod Calm
+pub mod Fresh
+pub mod Stepping
+pub mod WithOps

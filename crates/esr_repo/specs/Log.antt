@@ -2,7 +2,7 @@
 use Rattle.std.specs.Prelude.{ℕ, Bool, true, false, List, [], ◌∷◌, Option, option_map, if◌then◌else◌}
 use Rattle.esr_model.specs.Image.{Image}
 use Rattle.esr_core.specs.Entry.{is_recorded, Read, ReadBlob, RestoredShard, CheckedAll, DrawTest, BeginTest, CommitTest, RemoveTests, VerifiedAll, ReadFails, Prune, FetchShard, PlanShards, SettlePruned, RemoveDoomed, EndDelete, DeleteFails, Step, AskStep, TakeStep, DrawStep, BeginStep, CommitStep, LatestStep, FetchStep, ListStep, RaiseStep, SettleStep, DoneStep, FailedStep, FinishStep, DroppedStep, ElectStep, LookStep, ReadStep, PruneStep, Reply, Refused, NameTaken, DepotFault, Entry, Moment}
-pub use Rattle.esr_opening.specs.Opening.{image_of}
+pub use Rattle.esr_progress.specs.Kept.{image_of}
 use Rattle.esr_depot.specs.Look.{Look}
 use Rattle.esr_depot.specs.Calls.{up}
 

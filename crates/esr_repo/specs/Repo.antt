@@ -22,7 +22,7 @@ use Rattle.esr_formats.specs.Clusters.{cluster_kind}
 use Rattle.esr_formats.specs.Refs.{ref_of_code}
 use Rattle.esr_progress.specs.Infos.{AreInfosOf}
 use Rattle.esr_desk.specs.Start.{Start, formats_of, world_of, Legal}
-pub use Rattle.esr_opening.specs.Opening.{Kept, IsKeptOf}
+pub use Rattle.esr_progress.specs.Kept.{Kept, IsKeptOf}
 use Rattle.esr_repo.specs.Log.{image_of, ticks, log_of}
 use Rattle.esr_repo.specs.Client.{TellsClient}
 use Rattle.esr_repo.specs.Tickets.{AreStale, AreOfOps}

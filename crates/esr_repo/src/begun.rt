@@ -4,7 +4,7 @@ ghost use Rattle.esr_repo.specs.Begun.{IsBegun};
 
 use crate::{Repo, Told};
 use esr_depot::Depot;
-use esr_opening::Opening;
+use esr_progress::Opening;
 use std::alloc::Global;
 
 impl<D: Depot, K: Told> Repo<D, K> {

@@ -15,5 +15,5 @@ mod units;
 
 pub use law::entries_tell_the_caller;
 pub use repo::Repo;
-pub use swap::Renewed;
+pub use swap::{Renewed, entry_refusal, with_ops};
 pub use told::Told;

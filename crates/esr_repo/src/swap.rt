@@ -1,11 +1,15 @@
 //! The steps that swap the cluster record.
-ghost use Rattle.std.specs.Prelude.{◌≡◌, ◌⊎◌, ◌<◌, ◌++◌, false, IfErr, vec_len, vec_capacity};
+ghost use Rattle.std.specs.Prelude.{◌≡◌, ◌⊎◌, ◌<◌, ◌++◌, ℕ, ℤ, map, Some, false, IfOk, IfErr, vec_len, vec_capacity};
 ghost use Rattle.std.specs.Option.{unwrap_or, option_to_list};
 ghost use Rattle.esr_model.specs.Values.{ReadsBack};
+ghost use Rattle.esr_core.specs.World.{record_ops};
+ghost use Rattle.esr_core.specs.Entry as entry;
 ghost use Rattle.esr_depot.specs.Calls.{HasCause, Serves, Called, is_wanting, has_failed};
 ghost use Rattle.esr_depot.specs.Changes.{Swapped, SwapMay};
-ghost use Rattle.esr_formats.specs.Clusters.{cluster_of, cluster_kind};
+ghost use Rattle.esr_record.specs.declared.steps.RecordRefusal.TheVariants as records;
+ghost use Rattle.esr_formats.specs.Clusters.{count_of, cluster_of, cluster_kind, op_of};
 ghost use Rattle.esr_desk.specs.Entries.{step_of, answer_of};
+ghost use Rattle.esr_desk.specs.Refusals.{refusal_of};
 ghost use Rattle.esr_desk.specs.declared.refusal.StepRefusal.TheVariants.{Memory, Refused};
 ghost use Rattle.esr_desk.specs.declared.refusal.EntryRefusal.TheVariants.{DepotFault};
 ghost use Rattle.esr_repo.specs.Next.{IsLive, GoesOn, Did};
@@ -18,11 +22,10 @@ use esr_desk::{Answer, Entry, EntryRefusal, Step, StepRefusal};
 use esr_formats::write_cluster;
 use esr_meta::SnapInfo;
 use esr_names::Id;
-use esr_opening::SnapInfos;
-use esr_progress::Progress;
-use esr_record::ClusterRecord;
+use esr_progress::{Progress, SnapInfos};
+use esr_record::{ClusterRecord, RecordRefusal};
 use esr_root::RootData;
-use std::alloc::Global;
+use std::alloc::{AllocError, Global};
 
 /// What a repository keeps after a record swap: the new record, the safe root and the list of ops where they are new, and the
 /// infos of the snapshots that are left, where some were taken away, or the info of the one that the new root lists besides,
@@ -59,6 +62,44 @@ impl Renewed {
         renew_infos(infos, self.left, self.info);
         renew(progress, self.progress);
         *next = self.next;
+    }
+}
+
+/// What is kept with this record, into which the ops of the list go.
+pub fn with_ops(
+    alloc: Global,
+    mut cluster: ClusterRecord,
+    root: Option<RootData>,
+    left: Option<SnapInfos>,
+    info: Option<SnapInfo>,
+    progress: Progress,
+    next: Id,
+) -> Result<Renewed, AllocError>
+    ensures is { IfOk result (λ r. r ≡ record { cluster = r.cluster; root = root; left = left; info = info; progress = Some progress; next = next }) }
+    ensures ledger { IfOk result (λ r. (cluster_of r.cluster).ledger ≡ (cluster_of cluster).ledger) }
+    ensures ops { IfOk result (λ r. map op_of r.cluster.ops ≡ record_ops progress.ops progress.deletes) }
+{
+    cluster.ops = progress.record_ops(alloc)?;
+    Ok(Renewed {
+        cluster,
+        root,
+        left,
+        info,
+        progress: Some(progress),
+        next,
+    })
+}
+
+/// The refusal of a record, as an entry tells it.
+pub fn entry_refusal(refusal: RecordRefusal) -> EntryRefusal
+    ensures stale { (own now : ℕ) → refusal ≡ records.StaleTerm own now → refusal_of result ≡ entry.StaleTerm own now }
+    ensures terms { (number : ℕ) → refusal ≡ records.TermsSpent number → refusal_of result ≡ entry.TermsSpent number }
+    ensures spent { (number : ℤ) → refusal ≡ records.GenerationsSpent number → refusal_of result ≡ entry.GenerationsSpent (count_of number) }
+{
+    match refusal {
+        RecordRefusal::StaleTerm { own, now } => EntryRefusal::StaleTerm { own, now },
+        RecordRefusal::GenerationsSpent { number } => EntryRefusal::GenerationsSpent { number },
+        RecordRefusal::TermsSpent { number } => EntryRefusal::TermsSpent { number },
     }
 }
 

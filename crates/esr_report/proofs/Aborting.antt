@@ -64,6 +64,7 @@ named_aborts before op e name is =
 
 unasked : (name : Bytes) (step : Step) (reply : entry.Reply) → asks_delete step reply ≡ false → abort_by name step reply ≡ None
 unasked name (AskStep (DeleteSnapshots names)) (Accepted d) h = absurd cc
+unasked name (AskStep command) (Accepted d) h = refl
 unasked name step reply h = refl
 
 unasked_of : (n : Option Bytes) (k : Option ℕ) (step : Step) (reply : entry.Reply) → asks_delete step reply ≡ false → abort_of n k step reply ≡ None

@@ -5,7 +5,7 @@ use Rattle.esr_model.specs.Places.{places}
 use Rattle.esr_model.specs.Uploads.{same_bytes}
 use Rattle.esr_core.specs.After.{or_else, swaps_record}
 use Rattle.esr_core.specs.Entry as entry
-use Rattle.esr_core.specs.Entry.{Given, GivenShard, GivenFinalize, GivenDrop, GivenRestore, GivenClone, GivenDelete, GivenCleanup, Why, OfDepot, Read, RestoredShard, CheckedAll, VerifiedAll, ReadFails, SettlePruned, DeleteFails, Snapshot, Clone, DeleteSnapshots, Step, AskStep, SettleStep, FailedStep, FinishStep, DroppedStep, ElectStep, LookStep, ReadStep, PruneStep, Refusal, DeposedAt, DepotFault, Accepted, AcceptedRestore, Gave, WasSettled, HasEnded, ElectedTerm, Looked, Entry}
+use Rattle.esr_core.specs.Entry.{Given, Asked, GivenShard, GivenFinalize, GivenDrop, GivenRestore, GivenClone, GivenDelete, GivenCleanup, Why, OfDepot, Read, RestoredShard, CheckedAll, VerifiedAll, ReadFails, SettlePruned, DeleteFails, Snapshot, Clone, DeleteSnapshots, Step, AskStep, SettleStep, FailedStep, FinishStep, DroppedStep, ElectStep, LookStep, ReadStep, PruneStep, Refusal, DeposedAt, DepotFault, Accepted, AcceptedRestore, Gave, WasSettled, HasEnded, ElectedTerm, Looked, Entry}
 use Rattle.esr_script.specs.declared.item.Item.{Item}
 use Rattle.esr_script.specs.declared.item.ScriptLine.{ScriptLine}
 use Rattle.esr_script.specs.Kinds.{is_check, is_failover, is_wait}
@@ -176,9 +176,14 @@ abbrev pub has_name : List Bytes → Bytes → Bool
 has_name [] name = false
 has_name (x ∷ xs) name = same_bytes x name || has_name xs name
 
+-- it asks for a delete of what has the name
+abbrev pub names_it : Asked → Bytes → Bool
+names_it (DeleteSnapshots names) name = has_name names name
+names_it command name = false
+
 -- a delete that names this was accepted
 abbrev pub abort_by : Bytes → Step → entry.Reply → Option Reply
-abort_by name (AskStep (DeleteSnapshots names)) (Accepted d) = if has_name names name then Some (Aborted d) else None
+abort_by name (AskStep command) (Accepted d) = if names_it command name then Some (Aborted d) else None
 abort_by name step reply = None
 
 -- it aborts an accepted snapshot of which no finalization is out

@@ -441,12 +441,25 @@ fn wait_answer(down: bool, cut: bool) -> Option<Reply>
 }
 
 /// The replies of the lines, in order, as far as there is an answer.
-#[tactic(auto, unfolding(crate::specs::Replies::replies))]
 pub fn replies(alloc: Global, script: &Script, history: &History) -> Result<Replies, AllocError>
     ensures { IfOk result (λ rs. map reply_of rs ≡ replies script.now history.now) }
 {
     let entries = history.as_slice();
     let told = told_ends(alloc, entries)?;
+    replies_by(alloc, script, entries, &told)
+}
+
+/// The replies, by these ends that the entries tell.
+#[tactic(auto, unfolding(crate::specs::Replies::replies))]
+fn replies_by(
+    alloc: Global,
+    script: &Script,
+    entries: &[Entry],
+    told: &ToldEnds,
+) -> Result<Replies, AllocError>
+    requires { AreAllEnds entries.now told.now }
+    ensures { IfOk result (λ rs. map reply_of rs ≡ replies script.now entries.now) }
+{
     let fallen = has_fallen(entries);
     let mut rest = entries;
     let mut down = false;
@@ -473,7 +486,7 @@ pub fn replies(alloc: Global, script: &Script, history: &History) -> Result<Repl
         let [entry, more @ ..] = past_look(is_check(&line.item), from_line(rest)) else {
             return Ok(replies);
         };
-        let Some(reply) = line_answer(alloc, entries, &told, &line.item, entry)? else {
+        let Some(reply) = line_answer(alloc, entries, told, &line.item, entry)? else {
             return Ok(replies);
         };
         replies.push(reply)?;

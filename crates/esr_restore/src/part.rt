@@ -28,38 +28,44 @@ use esr_source::Target;
 use esr_unit::Trouble;
 use std::alloc::Global;
 
-/// Reads a part of `size` bytes for the file that is begun, and hashes what it reads. It answers whether the part has
-/// exactly that size.
+/// A part of a file: the name of its blob, and how many bytes it is to have.
+#[derive(Clone, Copy)]
+struct Part {
+    name: BlobName,
+    size: u64,
+}
+
+/// Reads a part for the file that is begun, and hashes what it reads. It answers whether the part has exactly the size that
+/// is stated.
 fn read_part<Q: Desk>(
     alloc: Global,
     desk: &mut Q,
     ticket: u64,
-    name: BlobName,
-    size: u64,
+    part: Part,
     target: &mut Q::Target,
     hasher: &mut Hasher,
     buf: &mut [u8],
 ) -> Result<bool, Trouble<Q::Stage, Q::Fetch>>
     requires mine { HasTaken (Q.calls desk.old) ticket }
-    requires layout { IsName name }
-    requires may { CanRead Q.start (reader_of Q.start (Q.seen desk.old) ticket) (name_of name) }
-    requires room { IsSomeAnd (Q.Target.told target.old).begun (λ b. size ≤ b.room) }
-    requires bound { fed_count hasher.old + size + 1 < 2 ^ 61 }
+    requires layout { IsName part.name }
+    requires may { CanRead Q.start (reader_of Q.start (Q.seen desk.old) ticket) (name_of part.name) }
+    requires room { IsSomeAnd (Q.Target.told target.old).begun (λ b. part.size ≤ b.room) }
+    requires bound { fed_count hasher.old + part.size + 1 < 2 ^ 61 }
     requires buffer { 0 < length buf.old }
-    requires new { IsFresh Q.start (Q.seen desk.old) ticket (ReadStep (ReadBlob (name_of name))) }
+    requires new { IsFresh Q.start (Q.seen desk.old) ticket (ReadStep (ReadBlob (name_of part.name))) }
     ensures buffer { length buf.new ≡ length buf.old }
-    ensures read { IfOk result (ReadPart Q.start (reader_of Q.start (Q.seen desk.new) ticket) hasher.old hasher.new (Q.Target.told target.old).begun (Q.Target.told target.new).begun (name_of name) size) }
+    ensures read { IfOk result (ReadPart Q.start (reader_of Q.start (Q.seen desk.new) ticket) hasher.old hasher.new (Q.Target.told target.old).begun (Q.Target.told target.new).begun (name_of part.name) part.size) }
     ensures files { (Q.Target.told target.new).files ≡ (Q.Target.told target.old).files }
     ensures steady { OnOk result (Q.Target.faults target.new ≡ Q.Target.faults target.old) }
     ensures made_for { (Q.Target.told target.new).made_for ≡ (Q.Target.told target.old).made_for }
     ensures is_sure { (Q.Target.told target.new).is_sure ≡ (Q.Target.told target.old).is_sure }
-    ensures reads { IfOk result (λ w. ReadsOnly Q.start (Q.seen desk.old) (Q.seen desk.new) ticket (λ n. n ≡ name_of name)) }
+    ensures reads { IfOk result (λ w. ReadsOnly Q.start (Q.seen desk.old) (Q.seen desk.new) ticket (λ n. n ≡ name_of part.name)) }
     ensures trouble { IfErr result (IsTrouble (evidence Q.Stage.faults Q.Fetch.faults Q.Shard.faults Q.Target.faults Q.Shard.told Q.Target.told) (Q.Target.faults target.new) (Q.Target.told target.new).is_sure Q.start (Q.seen desk.new) ticket) }
     ensures went { Went Q.start (Q.seen desk.old) (Q.seen desk.new) ticket }
     ensures calls { Q.calls desk.new ≡ Q.calls desk.old }
 {
-    let mut blob = fetch(alloc, desk, ticket, name)?;
-    match read_back(&mut blob, target, hasher, size, buf) {
+    let mut blob = fetch(alloc, desk, ticket, part.name)?;
+    match read_back(&mut blob, target, hasher, part.size, buf) {
         Ok(Extent::Whole) => Ok(true),
         Ok(Extent::Short) => Ok(false),
         Ok(Extent::Long) => Ok(false),
@@ -103,7 +109,8 @@ pub fn read_parts<Q: Desk>(
     for number in 0..part_count(entry.print.len, entry.part_size) {
         let (_, size) = part_plan(entry.print.len, entry.part_size, number);
         let name = part_name(job.at, entry, number);
-        let is_whole = read_part(alloc, desk, job.ticket, name, size, target, hasher, buf)?;
+        let part = Part { name, size };
+        let is_whole = read_part(alloc, desk, job.ticket, part, target, hasher, buf)?;
         is_exact = is_exact && is_whole;
     }
     Ok(is_exact)

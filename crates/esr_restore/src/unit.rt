@@ -190,7 +190,8 @@ pub fn run_unit<Q: Desk, T: Targets<Target = Q::Target>>(
     ensures calls { Q.calls desk.new ≡ Q.calls desk.old }
 {
     esr_core::refusals_are_of_their_steps();
-    let Unit { ready, .. } = unit;
+    let Unit { ready, new_root } = unit;
+    drop(new_root);
     let (ticket, op) = (ready.ticket, ready.op);
     let work = ready.into_work();
     let Work::RestoreShard {
@@ -206,6 +207,7 @@ pub fn run_unit<Q: Desk, T: Targets<Target = Q::Target>>(
         Ok(target) => target,
         Err(_) => return Err(stopped(StepRefusal::Memory)),
     };
+    drop(place);
     let job = Job { ticket, at, uuid };
     match restore(alloc, desk, job, &mut target) {
         Ok(snap) => {

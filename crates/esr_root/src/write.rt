@@ -8,10 +8,10 @@ ghost use Rattle.esr_root.specs.Reading.{root_from};
 ghost use Rattle.esr_root.specs.Root.{Root, IsRoot};
 
 use crate::{RootData, RootIndex, RootSnap};
-use esr_json::{text_value, write};
+use esr_json::{ObjectBuilder, text_value, write};
 use esr_names::{Id, id_text};
 use esr_seq::Bytes;
-use serde_json::{Map, Value, json};
+use serde_json::{Map, Value};
 use std::alloc::{AllocError, Global};
 
 fn id_value(alloc: Global, id: Id) -> Result<Value, AllocError>
@@ -27,7 +27,12 @@ fn id_value(alloc: Global, id: Id) -> Result<Value, AllocError>
 fn snap_value(alloc: Global, snap: &RootSnap) -> Result<Value, AllocError>
     ensures { IfOk result (λ v. view v ≡ snap_data snap.now) }
 {
-    json!(in alloc; {"name": snap.name.as_str(), "state": snap.state, "uuid": id_value(alloc, snap.uuid)?})
+    let value = ObjectBuilder::new(alloc)
+        .text("name", snap.name.as_str())?
+        .number("state", u64::from(snap.state))?
+        .value("uuid", id_value(alloc, snap.uuid)?)?
+        .build();
+    Ok(value)
 }
 
 fn snaps_value(alloc: Global, snaps: &[RootSnap]) -> Result<Value, AllocError>
@@ -72,7 +77,15 @@ fn ids_value(alloc: Global, ids: &[Id]) -> Result<Value, AllocError>
 fn index_value(alloc: Global, index: &RootIndex) -> Result<Value, AllocError>
     ensures { IfOk result (λ v. view v ≡ index_data index.now) }
 {
-    json!(in alloc; {"id": id_value(alloc, index.id)?, "shard_generations": generations_value(alloc, index.generations.as_slice())?, "snapshots": ids_value(alloc, index.snapshots.as_slice())?})
+    let value = ObjectBuilder::new(alloc)
+        .value("id", id_value(alloc, index.id)?)?
+        .value(
+            "shard_generations",
+            generations_value(alloc, index.generations.as_slice())?,
+        )?
+        .value("snapshots", ids_value(alloc, index.snapshots.as_slice())?)?
+        .build();
+    Ok(value)
 }
 
 fn indices_value(alloc: Global, indices: &[RootIndex]) -> Result<Value, AllocError>
@@ -92,7 +105,11 @@ fn root_value(alloc: Global, root: &RootData) -> Result<Value, AllocError>
 {
     let snapshots = snaps_value(alloc, root.snapshots.as_slice())?;
     let indices = indices_value(alloc, root.indices.as_slice())?;
-    json!(in alloc; {"indices": indices, "snapshots": snapshots})
+    let value = ObjectBuilder::new(alloc)
+        .value("indices", indices)?
+        .value("snapshots", snapshots)?
+        .build();
+    Ok(value)
 }
 
 /// The text of a root: compact, members in byte order of their keys, no final newline.

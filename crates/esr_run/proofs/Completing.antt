@@ -1,17 +1,15 @@
 -- What a run over quiet objects ends with.
-use Rattle.std.proofs.Common.{◌≡◌, ◌≢◌, ◌⊎◌, ℕ, zero, suc, ◌+◌, ◌^◌, ◌<◌, ◌≤◌, Bool, true, false, cond, nat_lt, List, [], ◌∷◌, ◌++◌, append-nil, append_assoc, map, length, Option, Some, is_some, refl, sym, ap, ◌∙◌, subst, inl, inr, ⊎_elim, arith}
+use Rattle.std.proofs.Common.{◌≡◌, ◌≢◌, ◌⊎◌, ℕ, zero, suc, ◌+◌, ◌^◌, ◌<◌, ◌≤◌, Bool, true, false, cond, nat_lt, List, [], ◌∷◌, ◌++◌, append-nil, append_assoc, map, length, length-append, Option, Some, is_some, refl, sym, ap, ◌∙◌, subst, inl, inr, ⊎_elim, arith}
 use Rattle.std.specs.Prelude.{◌&&◌, ◌==◌, unwrap_or, if◌then◌else◌}
 use Rattle.std.proofs.lemmas.Bool.{ltb-true, ltb-false, le-ltb}
 use Rattle.std.proofs.lemmas.Bool.Decides.{eqb_tells}
 use Rattle.std.proofs.lemmas.List.Sums.{sum_by-cons}
 use Rattle.esr_model.specs.Lists.{Has-left}
-use Rattle.esr_model.specs.Values.{Bytes, Has, Formats}
+use Rattle.esr_model.specs.Values.{Bytes, Has}
 use Rattle.esr_model.specs.Image.{Image}
-use Rattle.esr_model.specs.Kept.{first_id}
-use Rattle.esr_core.specs.World.{World, Caller, Opened, OpenedEmpty, OpenedRecord}
-use Rattle.esr_core.specs.Entry.{AskedIndex, Snapshot, Restore, GivenCleanup, Step, AskStep, TakeStep, ElectStep, Refusal, Reply, Gave, Refused, DepotFault, DeposedAt, IdsSpent, GenerationsSpent, TermsSpent, Entry, Moment}
+use Rattle.esr_core.specs.World.{World, Caller, Opened}
+use Rattle.esr_core.specs.Entry.{AskedIndex, Snapshot, Restore, GivenCleanup, Step, AskStep, TakeStep, ElectStep, Refusal, Gave, Refused, DepotFault, DeposedAt, Entry, Moment}
 use Rattle.esr_core.specs.History.{AllKnown, AreTold}
-use Rattle.esr_law.specs.Spent.{terms_by, terms_in, SpentSo}
 use Rattle.esr_depot.specs.Image.{Image as Held}
 use Rattle.esr_depot.specs.Look.{Look, now}
 use Rattle.esr_script.specs.declared.item.AskedIndex.{AskedIndex as LineIndex}
@@ -32,23 +30,26 @@ use Rattle.esr_repo.specs.Counted.{is_fault, fault_entries}
 use Rattle.esr_repo.specs.Calm.{IsCalm}
 use Rattle.esr_repo.specs.Deposed.{FailedSwap, AreDeposedSo}
 use Rattle.esr_quiet.specs.Asked.{is_line_ask, is_asked, as_asked, asked_steps, AreSteady}
-use Rattle.esr_quiet.specs.Smooth.{IsSmooth, IsSpent, AreCalm, NoneFailed, NoneUndeleted, NoneUnrestored, NoneUnverified, NoneAsked}
+use Rattle.esr_quiet.specs.Smooth.{IsSmooth, AreCalm, AreUnspent, NoneFailed, NoneUndeleted, NoneUnrestored, NoneUnverified, NoneAsked}
 use Rattle.esr_quiet.specs.Refusals.{AreByRule}
+use Rattle.esr_quiet.specs.PrefixLaws.{told_front}
 use Rattle.esr_complete.specs.Lines.{index_of_line, steps_of_item, steps_of, failovers_of, entries_of, elections_of}
 use Rattle.esr_complete.specs.ItemSteps.{only_step, snapshot_item, restore_item}
 use Rattle.esr_drive.specs.Elections.{election, elections}
+use Rattle.esr_drive.specs.Stopped.{StopsWork, SaidDeposed, SettleFell, DropFell, DeleteFell}
 use Rattle.esr_complete.specs.InTurn.{IsInTurn, AreChecksInTurn}
 use Rattle.esr_complete.specs.Answers.{AreAnswered, EndsWell}
 use Rattle.esr_complete.specs.FaultFree.{IsFaultFreeRun}
 use Rattle.esr_run.specs.Start.{Telling, formats_by, steady_by, start_of}
-use Rattle.esr_run.specs.Complete.{AsksRestore, IsQuietFor, AsksMuch, SpentBy, IsAnsweredWell, Completes}
+use Rattle.esr_run.specs.Complete.{AsksRestore, IsQuietFor, HasSpent, IsAnsweredWell, Completes}
 use Rattle.esr_run.specs.Laws.{QuietLaws}
 use Rattle.esr_run.specs.Verified.{AreClosed}
 use Rattle.esr_run.specs.Waits.{AreFew}
-use Rattle.esr_run.specs.Made.{MadeFirst, AreElected, IsWaiting, AskedApart, AskedUnlessStopped, HasFallen, AreDone, NoneOpen}
+use Rattle.esr_run.specs.Made.{MadeFirst, SomeStopped, HasStopped, AreIn, AreElected, IsWaiting, AsksOrDraws, AskedUnlessStopped, HasFallen, AreDone, NoneOpen}
 use Rattle.esr_run.proofs.Leaving.{long_ends}
 use Rattle.esr_run.proofs.Unlisted.{refuses_unlisted}
-use Rattle.esr_run.proofs.Long.{IsQuietRun, asks_much}
+use Rattle.esr_run.proofs.Long.{QuietFront, asks_much}
+use Rattle.esr_run.proofs.Spent.{FirstSpent, find_spent, number_spent}
 use Rattle.esr_run.proofs.Parts.{are_parts}
 use Rattle.esr_run.proofs.Making.{legal_one, legal_front}
 use Rattle.esr_run.proofs.Callers.{waiting_closed}
@@ -72,59 +73,7 @@ entries_both : (front back : List Moment) → entries_of (front ++ back) ≡ ent
 entries_both [] back = refl
 entries_both (m ∷ front) back = ap (λ (l : List Entry). m.entry ∷ l) (entries_both front back)
 
--- ---- whether a number was spent
-
-spent_or_not : (reply : Reply) → IsSpent reply ⊎ (IsSpent reply → ⊥)
-spent_or_not (Refused (IdsSpent next)) = inl tt
-spent_or_not (Refused (GenerationsSpent pending)) = inl tt
-spent_or_not (Refused (TermsSpent term)) = inl tt
-spent_or_not reply = inr (λ h. h)
-
-abbrev Spent : List Entry → Type 0
-Spent es = (e : Entry) × Has es e × IsSpent e.reply
-
-find_spent : (es : List Entry) → Spent es ⊎ ((e : Entry) → Has es e → IsSpent e.reply → ⊥)
-find_spent [] = inr (λ e h s. h)
-find_spent (e ∷ es) = ⊎_elim
-    (λ (s : IsSpent e.reply). inl (e, inl refl, s))
-    (λ (n : IsSpent e.reply → ⊥). ⊎_elim
-    (λ (more : Spent es). inl (more.0, inr more.1, more.2))
-    (λ (none : (x : Entry) → Has es x → IsSpent x.reply → ⊥). inr (λ x h s. ⊎_elim (λ is. n (subst (λ (y : Entry). IsSpent y.reply) (sym is) s)) (λ has. none x has s) h))
-    (find_spent es))
-    (spent_or_not e.reply)
-
--- which number it was
-moment_of : (log : List Moment) (e : Entry) → Has (entries_of log) e → (m : Moment) × Has log m × (m.entry ≡ e)
-moment_of [] e h = absurd h
-moment_of (m ∷ log) e (inl is) = (m, inl refl, is)
-moment_of (m ∷ log) e (inr h) = let r = moment_of log e h in (r.0, inr r.1, r.2)
-
-opened_first : (f : Formats) (image : Image) (w : World) → Opened f image w → w.next_id ≡ first_id w.term
-opened_first f image w (OpenedEmpty none) = refl
-opened_first f image w (OpenedRecord cluster text root is reads safe) = refl
-
-same_election : (who : ℕ) (step : Step) → terms_by who step ≡ election who step
-same_election zero ElectStep = refl
-same_election zero step = refl
-same_election (suc k) step = refl
-
-same_elections : (log : List Moment) → terms_in log ≡ elections log
-same_elections [] = refl
-same_elections (m ∷ log) = ap (λ (n : ℕ). n + terms_in log) (same_election m.entry.who m.entry.step) ∙ ap (λ (n : ℕ). election m.entry.who m.entry.step + n) (same_elections log)
-
-few_terms : (term : ℕ) (log : List Moment) (lines : List ScriptLine) → elections log ≤ failovers_of lines → 2 ^ 63 ≤ term + terms_in log → 2 ^ 63 ≤ term + failovers_of lines
-few_terms term log lines few past =
-    let same : terms_in log ≡ elections log = same_elections log in
-    let fewer : elections log ≤ failovers_of lines = few in
-    let reached : 2 ^ 63 ≤ term + terms_in log = past in
-    omega (arith, same, fewer, reached)
-
-spent_by : (world : World) (lines : List ScriptLine) (log : List Moment) (reply : Reply) → elections log ≤ failovers_of lines → ((refusal : Refusal) → reply ≡ Refused refusal → SpentSo world log refusal) → IsSpent reply
-    → SpentBy world lines log reply
-spent_by world lines log (Refused (IdsSpent next)) few so is = so (IdsSpent next) refl
-spent_by world lines log (Refused (GenerationsSpent pending)) few so is = so (GenerationsSpent pending) refl
-spent_by world lines log (Refused (TermsSpent term)) few so is = few_terms world.term log lines few (so (TermsSpent term) refl)
-spent_by world lines log reply few so is = absurd is
+-- ---- how many entries there are
 
 many_or_not : (n m : ℕ) → (m ≤ n) ⊎ (n < m)
 many_or_not n m = go (nat_lt n m) refl
@@ -132,6 +81,9 @@ many_or_not n m = go (nat_lt n m) refl
     go : (b : Bool) → nat_lt n m ≡ b → (m ≤ n) ⊎ (n < m)
     go true e = inr (ltb-true n m e)
     go false e = inl (ltb-false n m e)
+
+at_most : (n : ℕ) → n < 2 ^ 33 → n ≤ 2 ^ 33
+at_most n h = let less : n < 2 ^ 33 = h in omega (arith, less)
 
 -- ---- no failure of the container
 
@@ -302,6 +254,21 @@ in_map (b ∷ l) a (inr h) = let r = in_map l a h in (r.0, inr r.1, r.2)
 is_steady : (telling : Telling) (place name : Bytes) (number : ℕ) → telling.is_quiet ≡ true → telling.is_there place name number ≡ Some true → steady_by telling place name number ≡ true
 is_steady telling place name number quiet there = ap (λ (b : Bool). b && unwrap_or (telling.is_there place name number) false) quiet ∙ ap (λ (o : Option Bool). unwrap_or o false) there
 
+-- ---- what stops the work
+
+what_stops : (step : Step) (refusal : Refusal) → StopsWork step refusal → ((place : ℕ) × (refusal ≡ DeposedAt place)) ⊎ (refusal ≡ DepotFault)
+what_stops step refusal (SaidDeposed st place) = inl (place, refl)
+what_stops step refusal SettleFell = inr refl
+what_stops step refusal DropFell = inr refl
+what_stops step refusal DeleteFell = inr refl
+
+few_before : (a b : List Moment) (m : Moment) → length (a ++ m ∷ b) ≤ 2 ^ 33 → 2 ^ 33 ≤ length a → ⊥
+few_before a b m few many =
+    let whole : length (a ++ m ∷ b) ≡ length a + suc (length b) = length-append a (m ∷ b) in
+    let all : length (a ++ m ∷ b) ≤ 2 ^ 33 = few in
+    let most : 2 ^ 33 ≤ length a = many in
+    omega (arith, whole, all, most)
+
 -- ---- a run over quiet objects
 
 module _ {S F H T : Type 0} (laws : QuietLaws S F H T) (evidence : Evidence S F H T) (telling : Telling) (size workers moment : ℕ)
@@ -315,7 +282,7 @@ module _ {S F H T : Type 0} (laws : QuietLaws S F H T) (evidence : Evidence S F 
 
   module _ (legal : Legal s log) (told : s.tells ≡ true → AreTold log) (shown : AreShown {S = S} {F = F} {H = H} {T = T} evidence s log faults)
       (once : AreOnce s log) (tested : AreTested s log) (calm : IsCalm true after.sure history) (named : AreDeposedSo history)
-      (made : MadeFirst s (steps_of moment lines) [] log) (apart : AreClosed s log) (quiet_for : IsQuietFor telling before lines) (known : AllKnown (formats_by telling)) (unspent : (e : Entry) → Has history e → IsSpent e.reply → ⊥) where
+      (made : MadeFirst s (steps_of moment lines) [] log) (apart : AreClosed s log) (quiet_for : IsQuietFor telling before lines) (known : AllKnown (formats_by telling)) where
     entries : entries_of log ≡ history
     entries = entries_are (image_at after) clock history
 
@@ -345,39 +312,6 @@ module _ {S F H T : Type 0} (laws : QuietLaws S F H T) (evidence : Evidence S F 
 
     calm_log : length history < 2 ^ 33 → AreCalm log
     calm_log few = calm_is log history entries (none_faults few)
-
-    -- where a unit is given no verification is open
-    given_closed : AskedApart s [] log → (front back : List Moment) (m : Moment) (ticket op : ℕ) → log ≡ front ++ m ∷ back → m.entry.reply ≡ Gave ticket op GivenCleanup → NoneOpen s front
-    given_closed asked_apart front back m ticket op is gave =
-        let whole : Legal s (front ++ m ∷ back) = subst (Legal s) is legal in
-        let one : Legal s (front ++ m ∷ []) = legal_front (formats_of s) size (front ++ m ∷ []) back world (subst (Legal s) (sym (append_assoc front (m ∷ []) back)) whole) in
-        let step : m.entry.step ≡ TakeStep = (laws.gave (formats_of s) size (world_of s front) m ticket op GivenCleanup (legal_one (formats_of s) size world front m one).1.0 gave).step_is in
-        let waits : IsWaiting s front = asked_apart.taken front back m (sym asked_apart.is ∙ is) step in
-        let was : Legal s front = legal_front (formats_of s) size front (m ∷ back) world whole in
-        waiting_closed laws.leaves s front was waits
-
-    smooth : length history < 2 ^ 33 → AskedApart s [] log → IsSmooth s log
-    smooth few asked_apart = record {
-      tells = tells;
-      quiet = refl;
-      known = known;
-      image = image_of quiet_for.holds.image;
-      shelf = quiet_for.shelf;
-      kept = quiet_for.holds.kept;
-      opened = opened quiet_for.holds.image quiet_for.holds.told;
-      legal = legal;
-      told = told tells;
-      once = once;
-      tested = tested;
-      steady = steady;
-      calm = calm_log few;
-      unspent = λ m h spent. unspent m.entry (subst (λ (l : List Entry). Has l m.entry) entries (has_entry log m h)) spent;
-      apart = λ front back m command is who step. (asked_apart.apart front back m (sym asked_apart.is ∙ is) who (inl (command, step))).tickets;
-      tests_apart = record {
-        given = λ front back m ticket op is gave. ap (λ (c : Caller). c.drawn) (given_closed asked_apart front back m ticket op is gave);
-        drawn = λ front back m is who step k clean. (asked_apart.apart front back m (sym asked_apart.is ∙ is) who (inr step)).tickets k;
-      };
-    }
 
     none_failed : IsSmooth s log → NoneFailed log
     none_failed smooth = laws.fails evidence s log faults smooth (shown.shown hands.Unit)
@@ -411,7 +345,7 @@ module _ {S F H T : Type 0} (laws : QuietLaws S F H T) (evidence : Evidence S F 
     rules : IsSmooth s log → AreByRule s log
     rules smooth = laws.rules s log smooth
 
-    -- ---- where 2 ^ 33 entries were made
+    -- ---- up to 2 ^ 33 entries nothing fails
 
     front_is : (front back : List Moment) → log ≡ front ++ back → history ≡ entries_of front ++ entries_of back
     front_is front back is = sym entries ∙ ap entries_of is ∙ entries_both front back
@@ -427,33 +361,99 @@ module _ {S F H T : Type 0} (laws : QuietLaws S F H T) (evidence : Evidence S F 
     front_deposed front back is a b e place whole =
         named a (b ++ entries_of back) e place (front_is front back is ∙ ap (λ (l : List Entry). l ++ entries_of back) whole ∙ append_assoc a (e ∷ b) (entries_of back))
 
-    quiet_run : AskedUnlessStopped s [] log → IsQuietRun s log
-    quiet_run unless = record {
-      tells = tells;
-      quiet = refl;
-      alone = refl;
-      known = known;
-      image = image_of quiet_for.holds.image;
-      shelf = quiet_for.shelf;
-      kept = quiet_for.holds.kept;
-      opened = opened quiet_for.holds.image quiet_for.holds.told;
-      legal = legal;
-      told = told tells;
-      once = once;
-      tested = tested;
-      steady = steady;
-      calm = λ front back is few. calm_is front (entries_of front) refl (front_faultless front back is few);
-      unspent = λ m h spent. unspent m.entry (subst (λ (l : List Entry). Has l m.entry) entries (has_entry log m h)) spent;
-      undeposed = λ front back m place is few. never_deposed front (entries_of front) refl (front_faultless front back is few) (front_deposed front back is) m place;
-      unless = unless;
-    }
+    front_calm : (c : QuietFront log) → AreCalm c.front
+    front_calm c = calm_is c.front (entries_of c.front) refl (front_faultless c.front c.back c.is c.few)
 
-    much : AreFew workers lines log → AskedUnlessStopped s [] log → 2 ^ 33 ≤ length history → AsksMuch (formats_by telling) size workers moment world lines log
-    much takes unless many =
-        let same : length history ≡ length log = ap length (sym entries) ∙ as_many log in
-        let most : 2 ^ 33 ≤ length history = many in
-        let long : 2 ^ 33 ≤ length log = omega (arith, same, most) in
-        asks_much laws s log (quiet_run unless) workers moment lines takes made (refuses_unlisted telling) long
+    work_goes_on : (c : QuietFront log) (a b : List Moment) → c.front ≡ a ++ b → SomeStopped a → ⊥
+    work_goes_on c a b is h =
+        let was = h.1 in
+        let there : Has c.front was.moment = subst (λ (l : List Moment). Has l was.moment) (sym is) (Has-left a b was.moment was.there) in
+        elim (what_stops was.moment.entry.step h.0 was.stops) [
+          | inl deposed ↦
+              never_deposed c.front (entries_of c.front) refl (front_faultless c.front c.back c.is c.few) (front_deposed c.front c.back c.is) was.moment deposed.0 there (was.same ∙ ap (λ (r : Refusal). Refused r) deposed.1)
+          | inr failed ↦ front_calm c was.moment there (was.same ∙ ap (λ (r : Refusal). Refused r) failed)
+        ]
+
+    whole : (c : QuietFront log) (a b : List Moment) (m : Moment) → c.front ≡ a ++ m ∷ b → log ≡ a ++ m ∷ (b ++ c.back)
+    whole c a b m is = c.is ∙ ap (λ (l : List Moment). l ++ c.back) is ∙ append_assoc a (m ∷ b) c.back
+
+    -- before each of its moments the work goes on
+    going : (c : QuietFront log) (a b : List Moment) (m : Moment) → c.front ≡ a ++ m ∷ b → HasStopped a → ⊥
+    going c a b m is stopped = ⊎_elim
+        (λ (some : SomeStopped a). work_goes_on c a (m ∷ b) is some)
+        (λ (many : 2 ^ 33 ≤ length a). few_before a b m (subst (λ (l : List Moment). length l ≤ 2 ^ 33) is c.few) many)
+        stopped
+
+    asked_in : AskedUnlessStopped s [] log → (c : QuietFront log) (a b : List Moment) (m : Moment) → c.front ≡ a ++ m ∷ b → m.entry.who ≡ 0 → AsksOrDraws m.entry.step → AreIn s a
+    asked_in unless c a b m is who asks = ⊎_elim
+        (λ (rests : AreIn s a). rests)
+        (λ (stopped : HasStopped a). absurd (going c a b m is stopped))
+        (unless.apart a (b ++ c.back) m (sym unless.is ∙ whole c a b m is) who asks)
+
+    -- where a unit is given no verification is open
+    given_closed : AskedUnlessStopped s [] log → (c : QuietFront log) (a b : List Moment) (m : Moment) (ticket op : ℕ) → c.front ≡ a ++ m ∷ b → m.entry.reply ≡ Gave ticket op GivenCleanup → NoneOpen s a
+    given_closed unless c a b m ticket op is gave =
+        let all : Legal s (a ++ m ∷ (b ++ c.back)) = subst (Legal s) (whole c a b m is) legal in
+        let one : Legal s (a ++ m ∷ []) = legal_front (formats_of s) size (a ++ m ∷ []) (b ++ c.back) world (subst (Legal s) (sym (append_assoc a (m ∷ []) (b ++ c.back))) all) in
+        let step : m.entry.step ≡ TakeStep = (laws.gave (formats_of s) size (world_of s a) m ticket op GivenCleanup (legal_one (formats_of s) size world a m one).1.0 gave).step_is in
+        let was : Legal s a = legal_front (formats_of s) size a (m ∷ (b ++ c.back)) world all in
+        ⊎_elim
+        (λ (waits : IsWaiting s a). waiting_closed laws.leaves s a was waits)
+        (λ (stopped : HasStopped a). absurd (going c a b m is stopped))
+        (unless.taken a (b ++ c.back) m (sym unless.is ∙ whole c a b m is) step)
+
+    front_smooth : AskedUnlessStopped s [] log → (c : QuietFront log) → IsSmooth s c.front
+    front_smooth unless c =
+        let within : (m : Moment) → Has c.front m → Has log m = λ m h. subst (λ (l : List Moment). Has l m) (sym c.is) (Has-left c.front c.back m h) in
+        record {
+          tells = tells;
+          quiet = refl;
+          known = known;
+          image = image_of quiet_for.holds.image;
+          shelf = quiet_for.shelf;
+          kept = quiet_for.holds.kept;
+          opened = opened quiet_for.holds.image quiet_for.holds.told;
+          legal = legal_front (formats_of s) size c.front c.back world (subst (Legal s) c.is legal);
+          told = told_front c.front c.back (subst AreTold c.is (told tells));
+          once = λ a b m name e. once a (b ++ c.back) m name (whole c a b m e);
+          tested = λ a b m name e. tested a (b ++ c.back) m name (whole c a b m e);
+          steady = λ m name indices when h. steady m name indices when (within m h);
+          calm = front_calm c;
+          unspent = c.unspent;
+          apart = λ a b m command e who step. (asked_in unless c a b m e who (inl (command, step))).tickets;
+          tests_apart = record {
+            given = λ a b m ticket op e gave. ap (λ (x : Caller). x.drawn) (given_closed unless c a b m ticket op e gave);
+            drawn = λ a b m e who step k clean. (asked_in unless c a b m e who (inr step)).tickets k;
+          };
+        }
+
+    as_long : length history ≡ length log
+    as_long = ap length (sym entries) ∙ as_many log
+
+    -- ---- where a number was spent, or 2 ^ 33 entries were made
+
+    -- so many were made before a number was spent
+    much : (status : ℕ) → status ≡ status_of (ending lines history) → AreFew workers lines log → AskedUnlessStopped s [] log → (front back : List Moment) → log ≡ front ++ back → AreUnspent front → 2 ^ 33 ≤ length front
+        → HasSpent (formats_by telling) size workers moment world lines log history status
+    much status is takes unless front back whole unspent many =
+        let same : length history ≡ length log = as_long in
+        let parts : length log ≡ length front + length back = ap length whole ∙ length-append front back in
+        let most : 2 ^ 33 ≤ length front = many in
+        let all : 2 ^ 33 ≤ length history = omega (arith, same, parts, most) in
+        let long : is_short history ≡ false = le-ltb (length history) (2 ^ 33) all in
+        inr (
+          all,
+          subst (λ (n : ℕ). 2 ≤ n) (sym is) (long_ends lines history long),
+          asks_much laws s log refl (front_smooth unless) workers moment lines takes made (refuses_unlisted telling) front back whole unspent many,
+        )
+
+    -- or fewer
+    spent_so : (status : ℕ) → status ≡ status_of (ending lines history) → AreFew workers lines log → AskedUnlessStopped s [] log → FirstSpent log → HasSpent (formats_by telling) size workers moment world lines log history status
+    spent_so status is takes unless first = ⊎_elim
+        (λ (many : 2 ^ 33 ≤ length first.front). much status is takes unless first.front (first.moment ∷ first.back) first.is first.unspent many)
+        (λ (few : length first.front < 2 ^ 33).
+        inl (number_spent laws s log refl (front_smooth unless) workers moment lines takes made legal (told tells) (refuses_unlisted telling) first (at_most (length first.front) few)))
+        (many_or_not (length first.front) (2 ^ 33))
 
     -- ---- where fewer were
 
@@ -461,7 +461,7 @@ module _ {S F H T : Type 0} (laws : QuietLaws S F H T) (evidence : Evidence S F 
     not_stopped : length history < 2 ^ 33 → HasFallen s moment lines [] log → ⊥
     not_stopped short (inl fell) = calm_log short fell.1.moment fell.1.there fell.1.failed
     not_stopped short (inr all) =
-        let many : length history ≡ length log = ap length (sym entries) ∙ as_many log in
+        let many : length history ≡ length log = as_long in
         let most : 2 ^ 33 ≤ length log = all in
         let less : length history < 2 ^ 33 = short in
         omega (arith, many, most, less)
@@ -472,14 +472,14 @@ module _ {S F H T : Type 0} (laws : QuietLaws S F H T) (evidence : Evidence S F 
 
     short_log : length history < 2 ^ 33 → length log < 2 ^ 33
     short_log short =
-        let many : length history ≡ length log = ap length (sym entries) ∙ as_many log in
+        let many : length history ≡ length log = as_long in
         let less : length history < 2 ^ 33 = short in
         omega (arith, many, less)
 
-    well : length history < 2 ^ 33 → AreDone s moment lines [] log → IsAnsweredWell s moment lines log history
-    well few_made done =
+    well : AskedUnlessStopped s [] log → length history < 2 ^ 33 → AreUnspent log → AreDone s moment lines [] log → IsAnsweredWell s moment lines log history
+    well unless few_made unspent done =
         let checks : AreChecksInTurn moment lines log = inr (are_parts s moment lines log refl done.parted (never_deposed log history entries (none_faults few_made) named)) in
-        let is_smooth : IsSmooth s log = smooth few_made done.apart in
+        let is_smooth : IsSmooth s log = front_smooth unless (record { front = log; back = []; is = sym (append-nil log); few = at_most (length log) (short_log few_made); unspent = unspent }) in
         let asked : asked_steps log ≡ steps_of moment lines = ap asked_steps done.grew.is ∙ done.grew.asked refl in
         let run : IsFaultFreeRun s log lines moment = record {
           smooth = is_smooth;
@@ -507,27 +507,18 @@ module _ {S F H T : Type 0} (laws : QuietLaws S F H T) (evidence : Evidence S F 
       → Completes telling size workers moment lines before world clock after history status
   completes status legal told shown once tested calm named made apart done is takes unless quiet_for known =
       ⊎_elim
-      (λ (spent : Spent history).
-      let found = moment_of log spent.0 (subst (λ (es : List Entry). Has es spent.0) (sym (entries_are (image_at after) clock history)) spent.1) in
-      let m : Moment = found.0 in
-      let first : world.next_id ≡ first_id world.term = opened_first (formats_by telling) (image_of quiet_for.holds.image) world (opened quiet_for.holds.image quiet_for.holds.told) in
-      inl (inl (
-        m,
-        found.1,
-        spent_by world lines log m.entry.reply takes.elects (λ refusal e. laws.spent (formats_of s) size world log m refusal first legal found.1 e) (subst (λ (e : Entry). IsSpent e.reply) (sym found.2) spent.2),
-      )))
-      (λ (unspent : (e : Entry) → Has history e → IsSpent e.reply → ⊥).
+      (λ (first : FirstSpent log). inl (spent_so legal told shown once tested calm named made apart quiet_for known status is takes unless first))
+      (λ (unspent : AreUnspent log).
       ⊎_elim
-      (λ (many : 2 ^ 33 ≤ length history).
-      let long : is_short history ≡ false = le-ltb (length history) (2 ^ 33) many in
-      inl (inr (many, subst (λ (n : ℕ). 2 ≤ n) (sym is) (long_ends lines history long), much legal told shown once tested calm named made apart quiet_for known unspent takes unless many)))
-      (λ (few : length history < 2 ^ 33).
+      (λ (many : 2 ^ 33 ≤ length log). inl (much legal told shown once tested calm named made apart quiet_for known status is takes unless log [] (sym (append-nil log)) unspent many))
+      (λ (few : length log < 2 ^ 33).
+      let short : length history < 2 ^ 33 = subst (λ (n : ℕ). n < 2 ^ 33) (sym (as_long legal told shown once tested calm named made apart quiet_for known)) few in
       inr (
         ⊎_elim
-            (λ (all : AreDone s moment lines [] log). well legal told shown once tested calm named made apart quiet_for known unspent few all)
-            (λ (stopped : HasFallen s moment lines [] log). absurd (not_stopped legal told shown once tested calm named made apart quiet_for known unspent few stopped))
+            (λ (all : AreDone s moment lines [] log). well legal told shown once tested calm named made apart quiet_for known unless short unspent all)
+            (λ (stopped : HasFallen s moment lines [] log). absurd (not_stopped legal told shown once tested calm named made apart quiet_for known short stopped))
             done,
         is,
       ))
-      (many_or_not (length history) (2 ^ 33)))
-      (find_spent history)
+      (many_or_not (length log) (2 ^ 33)))
+      (find_spent log)

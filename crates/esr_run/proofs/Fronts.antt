@@ -3,7 +3,7 @@ use Rattle.std.proofs.Common.{◌≡◌, ◌⊎◌, ℕ, zero, suc, ◌+◌, ◌
 use Rattle.esr_model.specs.Values.{Has, Formats}
 use Rattle.esr_model.specs.Image.{Image}
 use Rattle.esr_core.specs.World.{World}
-use Rattle.esr_core.specs.Entry.{Asked, Snapshot, Restore, Clone, DeleteSnapshots, Cleanup, Step, AskStep, TakeStep, ElectStep, Reply, NothingReady, Gave, Refusal, DeposedAt, Refused, Moment}
+use Rattle.esr_core.specs.Entry.{Asked, Step, AskStep, TakeStep, ElectStep, Reply, NothingReady, Gave, Refusal, DeposedAt, Refused, Moment, AbortedBy}
 use Rattle.esr_core.specs.Allowed.{Allows, GivingNothing, Allowed, Blocks, ByFailedSwap, ByDelete}
 use Rattle.esr_bounds.specs.Work.{asks_by, asks_in, elections_by, elections_in}
 use Rattle.esr_bounds.specs.Clients.{commands_by, commands_in, empty_by, empty_in}
@@ -12,7 +12,8 @@ use Rattle.esr_drive.specs.Takes.{idle_take, idle_takes, takes_more}
 use Rattle.esr_drive.specs.Elections.{election, elections, elections_more}
 use Rattle.esr_quiet.specs.Asked.{asked_steps}
 use Rattle.esr_quiet.specs.Asking.{asked_append}
-use Rattle.esr_quiet.specs.Askers.{AsksOrElects, asker, no_abort_rule}
+use Rattle.esr_quiet.specs.Askers.{AsksOrElects, asker}
+use Rattle.esr_quiet.specs.RuleLaws.{never_rule}
 use Rattle.esr_quiet.specs.Smooth.{IsSmooth}
 use Rattle.esr_quiet.specs.Refusals.{IsByRule, IsSwapStep, IsOfRule, IsOfTerm, AreByRule}
 use Rattle.esr_quiet.specs.PrefixLaws.{place_of, legal_at}
@@ -43,7 +44,7 @@ told_by f size w m a = elim a.answered [
 
 -- ---- one step
 
-nobody : (k : ℕ) → suc k ≡ 0 → ⊥
+pub nobody : (k : ℕ) → suc k ≡ 0 → ⊥
 nobody k e = let is : suc k ≡ 0 = e in omega (arith, is)
 
 one_ask : (who : ℕ) (step : Step) → (AsksOrElects step → who ≡ 0) → asks_by step ≡ commands_by who step
@@ -101,16 +102,9 @@ no_swap (AskStep command) asks swaps = swaps
 no_swap ElectStep asks swaps = swaps
 no_swap step asks swaps = asks
 
-no_deposed : (command : Asked) (place : ℕ) → IsByRule command (DeposedAt place) → ⊥
-no_deposed (Snapshot of indices time) place rule = rule
-no_deposed (Restore of at) place rule = rule
-no_deposed (Clone source of names time taken) place rule = rule
-no_deposed (DeleteSnapshots names) place rule = rule
-no_deposed Cleanup place rule = rule
-
 unruled : (w : World) (who : ℕ) (step : Step) (command : Asked) (refusal : Refusal) → Blocks w who step refusal → IsByRule command refusal → ⊥
-unruled w who step command _ (ByFailedSwap place deposed) rule = no_deposed command place rule
-unruled w who step command _ (ByDelete by alive aborted) rule = no_abort_rule command by rule
+unruled w who step command _ (ByFailedSwap place deposed) rule = never_rule command (DeposedAt place) refl rule
+unruled w who step command _ (ByDelete by alive aborted) rule = never_rule command (AbortedBy by) refl rule
 
 unblocked : (s : Start) (front : List Moment) (m : Moment) (w : World) (refusal : Refusal) → Blocks w m.entry.who m.entry.step refusal → AsksOrElects m.entry.step → IsOfRule front m refusal ⊎ IsOfTerm s front m refusal → ⊥
 unblocked s front m w refusal blocks asks (inl rule) = unruled w m.entry.who m.entry.step rule.0.0 refusal blocks rule.1

@@ -15,7 +15,9 @@ pub mod Cleanups
 pub mod Told
 pub mod Leaving
 pub mod Fronts
+pub mod Sums
 pub mod Long
+pub mod Spent
 pub mod Completing
 pub mod Sourceless
 pub mod Undamaged

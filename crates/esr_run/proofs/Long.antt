@@ -1,36 +1,31 @@
--- Of a history over quiet objects in which 2 ^ 33 entries were made the front of so many is one in which nothing fails.
-use Rattle.std.proofs.Common.{◌≡◌, ◌⊎◌, ℕ, zero, suc, ◌+◌, ◌^◌, ◌≤◌, true, List, [], ◌∷◌, ◌++◌, append_assoc, length, length-append, refl, sym, ap, ◌∙◌, subst, inl, inr, ⊎_elim, arith}
+-- What a front of a history over quiet objects asks for that has 2 ^ 33 entries at most, by the lines: it makes no more steps than these may ask for.
+use Rattle.std.proofs.Common.{◌≡◌, ℕ, zero, suc, ◌+◌, ◌*◌, ◌^◌, ◌≤◌, true, List, [], ◌∷◌, ◌++◌, append_assoc, length, refl, sym, ap, ◌∙◌, subst, arith}
+use Rattle.std.proofs.Math.Nat.{mul-le-mul}
 use Rattle.esr_model.specs.Lists.{Has-left}
 use Rattle.esr_model.specs.Values.{Has}
-use Rattle.esr_model.specs.Shelf.{Shelved}
-use Rattle.esr_model.specs.Image.{Image}
-use Rattle.esr_model.specs.Kept.{Kept}
-use Rattle.esr_core.specs.World.{Caller, Opened}
-use Rattle.esr_core.specs.Entry.{GivenCleanup, Step, TakeStep, Refusal, Gave, Refused, DepotFault, DeposedAt, Moment}
-use Rattle.esr_core.specs.History.{AllKnown, AreTold}
+use Rattle.esr_core.specs.Entry.{Step, Moment}
 use Rattle.esr_law.specs.Reach.{RefusesUnlisted}
-use Rattle.esr_bounds.specs.Work.{asks_in, elections_in}
+use Rattle.esr_bounds.specs.Units.{shards_by, shards_in}
+use Rattle.esr_bounds.specs.Work.{work_of_step, work_of, asks_in, elections_in, restores_in}
+use Rattle.esr_bounds.specs.Clones.{bare_steps, indices_by, sum_of, most_asked_shards, most_asked_work}
+use Rattle.esr_bounds.specs.Counts.{counts_in, most_by}
+use Rattle.esr_bounds.specs.CountsMore.{IsWithin, most_more}
 use Rattle.esr_bounds.specs.Clients.{commands_in, draws_in, looks_in, empty_in}
-use Rattle.esr_bounds.specs.Others.{most_of_all}
+use Rattle.esr_bounds.specs.Others.{generation_names, lost_in, most_shards, most_of_all}
 use Rattle.esr_script.specs.declared.item.ScriptLine.{ScriptLine}
-use Rattle.esr_desk.specs.Start.{Start, Legal, formats_of, world_of}
-use Rattle.esr_desk.specs.Once.{AreOnce}
-use Rattle.esr_desk.specs.Verify.Tested.{AreTested}
+use Rattle.esr_desk.specs.Start.{Start, formats_of}
 use Rattle.esr_drive.specs.Takes.{idle_takes}
 use Rattle.esr_drive.specs.Elections.{elections}
-use Rattle.esr_drive.specs.Stopped.{StopsWork, SaidDeposed, SettleFell, DropFell, DeleteFell}
-use Rattle.esr_quiet.specs.Asked.{asked_steps, AreSteady}
-use Rattle.esr_quiet.specs.Smooth.{IsSmooth, AreCalm, AreUnspent}
+use Rattle.esr_quiet.specs.Asked.{asked_steps}
+use Rattle.esr_quiet.specs.Smooth.{IsSmooth, AreUnspent}
 use Rattle.esr_quiet.specs.Refusals.{AreByRule}
-use Rattle.esr_quiet.specs.PrefixLaws.{told_front}
 use Rattle.esr_complete.specs.Lines.{steps_of, failovers_of}
-use Rattle.esr_run.specs.Complete.{AsksMuch}
+use Rattle.esr_run.specs.Complete.{AreOfClient, counts_of, AsksMuch}
 use Rattle.esr_run.specs.Laws.{QuietLaws}
-use Rattle.esr_run.specs.Made.{MadeFirst, SomeStopped, HasStopped, AreIn, NoneOpen, AsksOrDraws, IsWaiting, AskedUnlessStopped}
+use Rattle.esr_run.specs.Made.{MadeFirst}
 use Rattle.esr_run.specs.Waits.{waits_of, AreFew}
 use Rattle.esr_run.proofs.Fronts.{of_client, asks_of_client, elections_of_client, takes_of_client, fewer_elections, fewer_takes, fewer_asked}
-use Rattle.esr_run.proofs.Making.{legal_one, legal_front}
-use Rattle.esr_run.proofs.Callers.{waiting_closed}
+use Rattle.esr_run.proofs.Sums.{WeighsCommands, weighs_shards, weighs_indices, weighs_work, lined_weight, lined_shards, lined_work, up_by, more_terms}
 
 -- ---- the front of so many moments
 
@@ -48,155 +43,140 @@ cut (suc n) (m ∷ log) many =
     let c = cut n log (omega (arith, most)) in
     record { front = m ∷ c.front; back = c.back; is = ap (λ (l : List Moment). m ∷ l) c.is; just = ap suc c.just }
 
-few_before : (a b : List Moment) (m : Moment) → length (a ++ m ∷ b) ≡ 2 ^ 33 → 2 ^ 33 ≤ length a → ⊥
-few_before a b m just many =
-    let whole : length (a ++ m ∷ b) ≡ length a + suc (length b) = length-append a (m ∷ b) in
-    let all : length (a ++ m ∷ b) ≡ 2 ^ 33 = just in
-    let most : 2 ^ 33 ≤ length a = many in
-    omega (arith, whole, all, most)
-
--- ---- what stops the work
-
-what_stops : (step : Step) (refusal : Refusal) → StopsWork step refusal → ((place : ℕ) × (refusal ≡ DeposedAt place)) ⊎ (refusal ≡ DepotFault)
-what_stops step refusal (SaidDeposed st place) = inl (place, refl)
-what_stops step refusal SettleFell = inr refl
-what_stops step refusal DropFell = inr refl
-what_stops step refusal DeleteFell = inr refl
-
--- ---- a history over quiet objects
-
--- no call failed and no number was spent; who 0 asked where no ticket was out, as long as fewer than 2 ^ 33 entries were made
-pub record IsQuietRun (s : Start) (log : List Moment) : Type 0 where
-  pub tells : s.tells ≡ true
-  pub quiet : s.quiet ≡ true
-  pub alone : s.alone ≡ true
-  pub known : AllKnown (formats_of s)
-  pub image : Image
-  pub shelf : List Shelved
-  pub kept : Kept (formats_of s) image shelf
-  pub opened : Opened (formats_of s) image s.world
-  pub legal : Legal s log
-  pub told : AreTold log
-  pub once : AreOnce s log
-  pub tested : AreTested s log
-  pub steady : AreSteady s log
-  pub calm : (front back : List Moment) → log ≡ front ++ back → length front ≤ 2 ^ 33 → AreCalm front
-  pub unspent : AreUnspent log
-  pub undeposed : (front back : List Moment) (m : Moment) (place : ℕ) → log ≡ front ++ back → length front ≤ 2 ^ 33 → Has front m → m.entry.reply ≡ Refused (DeposedAt place) → ⊥
-  pub unless : AskedUnlessStopped s [] log
-
-module _ {S F H T : Type 0} (laws : QuietLaws S F H T) (s : Start) (log : List Moment) (run : IsQuietRun s log) where
-  few_in : (c : Cut (2 ^ 33) log) → length c.front ≤ 2 ^ 33
-  few_in c = let just : length c.front ≡ 2 ^ 33 = c.just in omega (arith, just)
-
-  not_stopped : (c : Cut (2 ^ 33) log) (a b : List Moment) → c.front ≡ a ++ b → SomeStopped a → ⊥
-  not_stopped c a b is h =
-      let was = h.1 in
-      let there : Has c.front was.moment = subst (λ (l : List Moment). Has l was.moment) (sym is) (Has-left a b was.moment was.there) in
-      elim (what_stops was.moment.entry.step h.0 was.stops) [
-        | inl deposed ↦ run.undeposed c.front c.back was.moment deposed.0 c.is (few_in c) there (was.same ∙ ap (λ (r : Refusal). Refused r) deposed.1)
-        | inr failed ↦ run.calm c.front c.back c.is (few_in c) was.moment there (was.same ∙ ap (λ (r : Refusal). Refused r) failed)
-      ]
-
-  whole : (c : Cut (2 ^ 33) log) (a b : List Moment) (m : Moment) → c.front ≡ a ++ m ∷ b → log ≡ a ++ m ∷ (b ++ c.back)
-  whole c a b m is = c.is ∙ ap (λ (l : List Moment). l ++ c.back) is ∙ append_assoc a (m ∷ b) c.back
-
-  -- before each of its moments the work goes on
-  going : (c : Cut (2 ^ 33) log) (a b : List Moment) (m : Moment) → c.front ≡ a ++ m ∷ b → HasStopped a → ⊥
-  going c a b m is stopped = ⊎_elim
-      (λ (some : SomeStopped a). not_stopped c a (m ∷ b) is some)
-      (λ (many : 2 ^ 33 ≤ length a). few_before a b m (ap (λ (l : List Moment). length l) (sym is) ∙ c.just) many)
-      stopped
-
-  asked_in : (c : Cut (2 ^ 33) log) (a b : List Moment) (m : Moment) → c.front ≡ a ++ m ∷ b → m.entry.who ≡ 0 → AsksOrDraws m.entry.step → AreIn s a
-  asked_in c a b m is who asks = ⊎_elim
-      (λ (rests : AreIn s a). rests)
-      (λ (stopped : HasStopped a). absurd (going c a b m is stopped))
-      (run.unless.apart a (b ++ c.back) m (sym run.unless.is ∙ whole c a b m is) who asks)
-
-  -- where a unit is given no verification is open
-  given_closed : (c : Cut (2 ^ 33) log) (a b : List Moment) (m : Moment) (ticket op : ℕ) → c.front ≡ a ++ m ∷ b → m.entry.reply ≡ Gave ticket op GivenCleanup → NoneOpen s a
-  given_closed c a b m ticket op is gave =
-      let all : Legal s (a ++ m ∷ (b ++ c.back)) = subst (Legal s) (whole c a b m is) run.legal in
-      let one : Legal s (a ++ m ∷ []) = legal_front (formats_of s) s.part_size (a ++ m ∷ []) (b ++ c.back) s.world (subst (Legal s) (sym (append_assoc a (m ∷ []) (b ++ c.back))) all) in
-      let step : m.entry.step ≡ TakeStep = (laws.gave (formats_of s) s.part_size (world_of s a) m ticket op GivenCleanup (legal_one (formats_of s) s.part_size s.world a m one).1.0 gave).step_is in
-      let was : Legal s a = legal_front (formats_of s) s.part_size a (m ∷ (b ++ c.back)) s.world all in
-      ⊎_elim
-      (λ (waits : IsWaiting s a). waiting_closed laws.leaves s a was waits)
-      (λ (stopped : HasStopped a). absurd (going c a b m is stopped))
-      (run.unless.taken a (b ++ c.back) m (sym run.unless.is ∙ whole c a b m is) step)
-
-  front_smooth : (c : Cut (2 ^ 33) log) → IsSmooth s c.front
-  front_smooth c =
-      let within : (m : Moment) → Has c.front m → Has log m = λ m h. subst (λ (l : List Moment). Has l m) (sym c.is) (Has-left c.front c.back m h) in
-      record {
-        tells = run.tells;
-        quiet = run.quiet;
-        known = run.known;
-        image = run.image;
-        shelf = run.shelf;
-        kept = run.kept;
-        opened = run.opened;
-        legal = legal_front (formats_of s) s.part_size c.front c.back s.world (subst (Legal s) c.is run.legal);
-        told = told_front c.front c.back (subst AreTold c.is run.told);
-        once = λ a b m name e. run.once a (b ++ c.back) m name (whole c a b m e);
-        tested = λ a b m name e. run.tested a (b ++ c.back) m name (whole c a b m e);
-        steady = λ m name indices moment h. run.steady m name indices moment (within m h);
-        calm = run.calm c.front c.back c.is (few_in c);
-        unspent = λ m h. run.unspent m (within m h);
-        apart = λ a b m command e who step. (asked_in c a b m e who (inl (command, step))).tickets;
-        tests_apart = record {
-          given = λ a b m ticket op e gave. ap (λ (x : Caller). x.drawn) (given_closed c a b m ticket op e gave);
-          drawn = λ a b m e who step k clean. (asked_in c a b m e who (inr step)).tickets k;
-        };
-      }
+-- a front of at most 2 ^ 33 entries, in which no number was spent
+pub record QuietFront (log : List Moment) : Type 0 where
+  pub front : List Moment
+  pub back : List Moment
+  pub is : log ≡ front ++ back
+  pub few : length front ≤ 2 ^ 33
+  pub unspent : AreUnspent front
 
 -- ---- what it asks for
 
-module _ {S F H T : Type 0} (laws : QuietLaws S F H T) (s : Start) (log : List Moment) (run : IsQuietRun s log) (workers moment : ℕ)
+through : (a b c : ℕ) → a ≤ b → b ≤ c → a ≤ c
+through a b c p q = let first : a ≤ b = p in let second : b ≤ c = q in omega (arith, first, second)
+
+module _ {S F H T : Type 0} (laws : QuietLaws S F H T) (s : Start) (log : List Moment) (alone : s.alone ≡ true) (smooth : (c : QuietFront log) → IsSmooth s c.front) (workers moment : ℕ)
     (lines : List ScriptLine) (few : AreFew workers lines log) (made : MadeFirst s (steps_of moment lines) [] log) where
-  asked : asked_steps log ++ made.rest ≡ steps_of moment lines
+  pub asked : asked_steps log ++ made.rest ≡ steps_of moment lines
   asked =
-      let first : asked_steps log ≡ made.first = ap asked_steps made.grew.is ∙ made.grew.asked run.alone in
+      let first : asked_steps log ≡ made.first = ap asked_steps made.grew.is ∙ made.grew.asked alone in
       ap (λ (steps : List Step). steps ++ made.rest) first ∙ made.is
 
-  asks : (c : Cut (2 ^ 33) log) → asks_in c.front ≡ commands_in c.front → asks_in c.front + (looks_in c.front + draws_in c.front) ≤ length (steps_of moment lines)
+  asks : (c : QuietFront log) → asks_in c.front ≡ commands_in c.front → asks_in c.front + (looks_in c.front + draws_in c.front) ≤ length (steps_of moment lines)
   asks c same =
       let own : asks_in c.front ≡ commands_in c.front = same in
       let here : commands_in c.front + (looks_in c.front + draws_in c.front) ≤ length (asked_steps c.front) = laws.asks c.front in
       let fewer : length (asked_steps c.front) ≤ length (steps_of moment lines) = fewer_asked c.front c.back log made.rest (steps_of moment lines) c.is asked in
       omega (arith, own, here, fewer)
 
-  elects : (c : Cut (2 ^ 33) log) → elections_in c.front ≡ elections c.front → elections_in c.front ≤ failovers_of lines
+  elects : (c : QuietFront log) → elections_in c.front ≡ elections c.front → elections_in c.front ≤ failovers_of lines
   elects c same =
       let own : elections_in c.front ≡ elections c.front = same in
       let fewer : elections c.front ≤ failovers_of lines = fewer_elections c.front c.back log (failovers_of lines) c.is few.elects in
       omega (arith, own, fewer)
 
-  takes : (c : Cut (2 ^ 33) log) → empty_in c.front ≡ idle_takes c.front → empty_in c.front ≤ waits_of workers lines + workers
+  takes : (c : QuietFront log) → empty_in c.front ≡ idle_takes c.front → empty_in c.front ≤ waits_of workers lines + workers
   takes c same =
       let own : empty_in c.front ≡ idle_takes c.front = same in
       let fewer : idle_takes c.front ≤ waits_of workers lines + workers = fewer_takes c.front c.back log (waits_of workers lines + workers) c.is few.takes in
       omega (arith, own, fewer)
 
-  -- so it makes as many steps
-  much : RefusesUnlisted (formats_of s) → Cut (2 ^ 33) log → AsksMuch (formats_of s) s.part_size workers moment s.world lines log
-  much unlisted c =
-      let smooth : IsSmooth s c.front = front_smooth laws s log run c in
-      let rules : AreByRule s c.front = laws.rules s c.front smooth in
+  commands : (c : QuietFront log) → asks_in c.front ≡ commands_in c.front → asks_in c.front ≤ length (steps_of moment lines)
+  commands c same = let all : asks_in c.front + (looks_in c.front + draws_in c.front) ≤ length (steps_of moment lines) = asks c same in omega (arith, all)
+
+  weighs : (c : QuietFront log) (weight : Step → ℕ) → WeighsCommands weight → AreOfClient c.front → sum_of weight (bare_steps c.front) ≤ sum_of weight (steps_of moment lines)
+  weighs c weight of own = lined_weight weight of c.front c.back log made.rest (steps_of moment lines) own c.is asked
+
+  rules : (c : QuietFront log) → AreByRule s c.front
+  rules c = laws.rules s c.front (smooth c)
+
+  pub own : (c : QuietFront log) → AreOfClient c.front
+  own c = of_client s c.front (smooth c) (rules c)
+
+  few_asks : (c : QuietFront log) → asks_in c.front ≤ length (steps_of moment lines)
+  few_asks c = commands c (asks_of_client s c.front (smooth c) (rules c))
+
+  pub shards : (c : QuietFront log) → shards_in c.front ≤ most_asked_shards (length (steps_of moment lines)) s.world (steps_of moment lines)
+  shards c = lined_shards s.world c.front (steps_of moment lines) (laws.shards s c.front (smooth c)) (few_asks c) (weighs c shards_by weighs_shards (own c))
+
+  work : (c : QuietFront log) (terms : ℕ) → work_of (formats_of s) s.part_size terms c.front ≤ most_asked_work (formats_of s) s.part_size terms (length (steps_of moment lines)) s.world (steps_of moment lines)
+  work c terms =
+      lined_work (formats_of s) s.part_size terms s.world c.front (steps_of moment lines) (laws.work s c.front terms (smooth c)) (few_asks c) (weighs c shards_by weighs_shards (own c)) (weighs c indices_by weighs_indices (own c))
+      (weighs c (work_of_step (formats_of s) s.part_size terms) (weighs_work (formats_of s) s.part_size terms) (own c))
+
+  -- no more than the lines may ask for
+  within : (c : QuietFront log) → IsWithin (counts_in (formats_of s) s.part_size c.front) (counts_of (formats_of s) s.part_size workers moment s.world lines)
+  within c =
+      let same : asks_in c.front ≡ commands_in c.front = asks_of_client s c.front (smooth c) (rules c) in
+      let all : asks_in c.front + (looks_in c.front + draws_in c.front) ≤ length (steps_of moment lines) = asks c same in
+      let elects_few : elections_in c.front ≤ failovers_of lines = elects c (elections_of_client s c.front (smooth c) (rules c)) in
+      let commands_few : commands_in c.front ≤ length (steps_of moment lines) = omega (arith, same, all) in
+      let looks_few : looks_in c.front ≤ length (steps_of moment lines) = omega (arith, all) in
+      let draws_few : draws_in c.front ≤ length (steps_of moment lines) = omega (arith, all) in
+      record {
+        commands = commands_few;
+        looks = looks_few;
+        draws = draws_few;
+        elections = elects_few;
+        empty = takes c (takes_of_client s c.front (smooth c) (rules c));
+        lost = none (lost_in c.front) (laws.found s c.front (smooth c));
+        asks = few_asks c;
+        restores =
+            through (restores_in c.front) (asks_in c.front * most_shards s.world c.front)
+            (length (steps_of moment lines) * (length (generation_names s.world.root.indices) + most_asked_shards (length (steps_of moment lines)) s.world (steps_of moment lines)))
+            (laws.restored s c.front (smooth c))
+            (mul-le-mul (few_asks c)
+            (up_by (length (generation_names s.world.root.indices)) (shards_in c.front) (most_asked_shards (length (steps_of moment lines)) s.world (steps_of moment lines)) (shards c)));
+        shards = shards c;
+        work =
+            more_terms (formats_of s) s.part_size (suc (elections_in c.front)) (suc (failovers_of lines)) (length (steps_of moment lines)) s.world (steps_of moment lines)
+            (work_of (formats_of s) s.part_size (suc (elections_in c.front)) c.front) (work c (suc (elections_in c.front))) (up (elections_in c.front) (failovers_of lines) elects_few);
+      }
+    where
+      none : (n : ℕ) → n ≡ 0 → n ≤ 0
+      none n e = let is : n ≡ 0 = e in omega (arith, is)
+
+      up : (a b : ℕ) → a ≤ b → suc a ≤ suc b
+      up a b p = let less : a ≤ b = p in omega (arith, less)
+
+  -- so it makes no more steps than they may
+  much : RefusesUnlisted (formats_of s) → (c : QuietFront log) → length c.front ≤ most_of_all (formats_of s) s.part_size s.world c.front
+  much unlisted c = laws.short s c.front (smooth c) unlisted
+
+  pub lined : RefusesUnlisted (formats_of s) → (c : QuietFront log) → length c.front ≤ most_by s.world (counts_of (formats_of s) s.part_size workers moment s.world lines)
+  lined unlisted c =
+      through (length c.front) (most_of_all (formats_of s) s.part_size s.world c.front) (most_by s.world (counts_of (formats_of s) s.part_size workers moment s.world lines)) (much unlisted c)
+      (most_more s.world (counts_in (formats_of s) s.part_size c.front) (counts_of (formats_of s) s.part_size workers moment s.world lines) (within c))
+
+  asks_all : RefusesUnlisted (formats_of s) → (c : QuietFront log) → length c.front ≡ 2 ^ 33 → AsksMuch (formats_of s) s.part_size workers moment s.world lines log
+  asks_all unlisted c just =
       record {
         front = c.front;
         back = c.back;
         is = c.is;
-        just = c.just;
-        own = of_client s c.front smooth rules;
-        asks = asks c (asks_of_client s c.front smooth rules);
-        elects = elects c (elections_of_client s c.front smooth rules);
-        takes = takes c (takes_of_client s c.front smooth rules);
-        restores = laws.restored s c.front smooth;
-        found = laws.found s c.front smooth;
-        much = subst (λ (n : ℕ). n ≤ most_of_all (formats_of s) s.part_size s.world c.front) c.just (laws.short s c.front smooth unlisted);
+        just = just;
+        own = own c;
+        asks = asks c (asks_of_client s c.front (smooth c) (rules c));
+        elects = elects c (elections_of_client s c.front (smooth c) (rules c));
+        takes = takes c (takes_of_client s c.front (smooth c) (rules c));
+        restores = laws.restored s c.front (smooth c);
+        shards = shards c;
+        work = work c;
+        found = laws.found s c.front (smooth c);
+        much = subst (λ (n : ℕ). n ≤ most_of_all (formats_of s) s.part_size s.world c.front) just (much unlisted c);
+        lined = subst (λ (n : ℕ). n ≤ most_by s.world (counts_of (formats_of s) s.part_size workers moment s.world lines)) just (lined unlisted c);
       }
 
-  pub asks_much : RefusesUnlisted (formats_of s) → 2 ^ 33 ≤ length log → AsksMuch (formats_of s) s.part_size workers moment s.world lines log
-  asks_much unlisted many = much unlisted (cut (2 ^ 33) log many)
+  -- where 2 ^ 33 entries were made before a number was spent
+  pub asks_much : RefusesUnlisted (formats_of s) → (front back : List Moment) → log ≡ front ++ back → AreUnspent front → 2 ^ 33 ≤ length front → AsksMuch (formats_of s) s.part_size workers moment s.world lines log
+  asks_much unlisted front back is unspent many =
+      let c : Cut (2 ^ 33) front = cut (2 ^ 33) front many in
+      let quiet : QuietFront log = record {
+        front = c.front;
+        back = c.back ++ back;
+        is = is ∙ ap (λ (l : List Moment). l ++ back) c.is ∙ append_assoc c.front c.back back;
+        few = let just : length c.front ≡ 2 ^ 33 = c.just in omega (arith, just);
+        unspent = λ m has. unspent m (subst (λ (l : List Moment). Has l m) (sym c.is) (Has-left c.front c.back m has));
+      } in
+      asks_all unlisted quiet c.just

@@ -1,5 +1,5 @@
 -- The laws of the core on which a run rests.
-use Rattle.std.specs.Prelude.{◌≡◌, ◌≢◌, ◌⊎◌, ℕ, suc, ◌+◌, ◌*◌, ◌≤◌, List, [], ◌∷◌, ◌++◌, length, Some, true, false}
+use Rattle.std.specs.Prelude.{◌≡◌, ◌≢◌, ◌⊎◌, ℕ, suc, ◌+◌, ◌*◌, ◌^◌, ◌≤◌, List, [], ◌∷◌, ◌++◌, length, Some, true, false}
 use Rattle.std.specs.FinMap as fin
 use Rattle.esr_model.specs.Values.{Has, Formats, ReadsBack, RootData, ClusterRecord}
 use Rattle.esr_model.specs.Image.{Image, Blobs}
@@ -11,9 +11,11 @@ use Rattle.esr_core.specs.After.{after}
 use Rattle.esr_core.specs.History.{world_from, IsLegal, TellsHandedOut, AreTold, committed}
 use Rattle.esr_core.specs.Sources.{HonestUploads, AreOfSources, AreOfOps}
 use Rattle.esr_law.specs.Digests.{AskNoSnapshot, AreClones, IsWholeByDigests}
-use Rattle.esr_law.specs.Spent.{SpentSo}
+use Rattle.esr_law.specs.Spent.{ids_in, SpentSo}
 use Rattle.esr_law.specs.Reach.{RefusesUnlisted}
-use Rattle.esr_bounds.specs.Work.{asks_in, restores_in}
+use Rattle.esr_bounds.specs.Units.{shards_in}
+use Rattle.esr_bounds.specs.Work.{work_of, asks_in, restores_in}
+use Rattle.esr_bounds.specs.Clones.{bare_steps, indices_by, sum_of, most_asked_shards, most_asked_work}
 use Rattle.esr_bounds.specs.Clients.{commands_in, draws_in, looks_in}
 use Rattle.esr_bounds.specs.Others.{lost_in, most_shards, most_of_all}
 use Rattle.esr_core.specs.Ids.{Law}
@@ -37,7 +39,7 @@ use Rattle.esr_quiet.specs.Numbers.{HasNoTickets}
 use Rattle.esr_quiet.specs.OverKept.{OverKept}
 use Rattle.esr_quiet.specs.Undamaged.{NoUnitFindsDamage, NoRestoreFindsDamage, NoDeleteFindsDamage, NoCheckFindsDamage}
 use Rattle.esr_quiet.specs.Untaken.{NoneTaken}
-use Rattle.esr_quiet.specs.Smooth.{IsSmooth, NoneFailed, NoneUndeleted, NoneUnrestored, NoneUnverified, NoneAsked}
+use Rattle.esr_quiet.specs.Smooth.{IsSmooth, IsSpent, NoneFailed, NoneUndeleted, NoneUnrestored, NoneUnverified, NoneAsked}
 use Rattle.esr_quiet.specs.Refusals.{AreByRule}
 use Rattle.esr_complete.specs.Lines.{entries_of}
 use Rattle.esr_complete.specs.Answers.{AreAnswered, EndsWell}
@@ -104,10 +106,15 @@ pub record QuietLaws (S F H T : Type 0) : Type 0 where
   pub rules : (s : Start) (log : List Moment) → IsSmooth s log → AreByRule s log
   -- who 0 asks for no more than what lines ask for
   pub asks : (log : List Moment) → commands_in log + (looks_in log + draws_in log) ≤ length (asked_steps log)
-  -- none of its fetches is lost, its restores have few shards, and it is no longer than what it asks for
+  -- none of its fetches is lost, its restores and clones have few shards, and it is no longer than what it asks for
   pub found : (s : Start) (log : List Moment) → IsSmooth s log → lost_in log ≡ 0
   pub restored : (s : Start) (log : List Moment) → IsSmooth s log → restores_in log ≤ asks_in log * most_shards s.world log
+  pub shards : (s : Start) (log : List Moment) → IsSmooth s log → shards_in log ≤ most_asked_shards (asks_in log) s.world (bare_steps log)
+  pub work : (s : Start) (log : List Moment) (terms : ℕ) → IsSmooth s log → work_of (formats_of s) s.part_size terms log ≤ most_asked_work (formats_of s) s.part_size terms (asks_in log) s.world (bare_steps log)
   pub short : (s : Start) (log : List Moment) → IsSmooth s log → RefusesUnlisted (formats_of s) → length log ≤ most_of_all (formats_of s) s.part_size s.world log
+  -- and it asks for few ids, also with one more step that is refused since a number is spent
+  pub ids : (s : Start) (log : List Moment) (last : Moment) → IsSmooth s log → Legal s (log ++ last ∷ []) → AreTold (log ++ last ∷ []) → IsSpent last.entry.reply
+      → ids_in (log ++ last ∷ []) ≤ suc (length log) * (2 ^ 32 + most_shards s.world log) + sum_of indices_by (bare_steps (log ++ last ∷ []))
   pub answered : (s : Start) (log : List Moment) (lines : List ScriptLine) (moment : ℕ) → IsFaultFreeRun s log lines moment → AreAnswered lines (replies lines (entries_of log))
   pub ends : (s : Start) (log : List Moment) (lines : List ScriptLine) (moment : ℕ) → IsFaultFreeRun s log lines moment → EndsWell lines (entries_of log)
   -- which number is spent where a step is refused so

@@ -76,6 +76,7 @@ fn command_asked(alloc: Global, workers: u32, part_size: u64, item: Item) -> Res
     ensures err { IfErr result (IsNoCommand item) }
 {
     if !is_carried(&item) {
+        drop(item);
         return Err(Stop::BadLine { number: 1 });
     }
     let script = single_script(alloc, item)?;

@@ -83,7 +83,9 @@ pub(crate) fn quiet_laws<S, F, H, T>()
     esr_complete::each_command_is_asked();
     esr_complete::smooth_runs_lose_nothing();
     esr_complete::smooth_runs_restore_few();
+    esr_complete::smooth_runs_clone_few();
     esr_complete::smooth_runs_are_short();
+    esr_complete::smooth_runs_ask_for_few_ids();
     esr_complete::smooth_runs_are_answered();
     esr_law::only_spent_numbers_refuse();
     esr_core::answers_tell_their_steps();

@@ -6,6 +6,7 @@ mod carry;
 mod command;
 mod ended;
 mod fault;
+mod host;
 mod law;
 mod line;
 mod memory;
@@ -16,5 +17,6 @@ mod verdict;
 mod whole;
 
 pub use ended::Ended;
+pub use host::Host;
 pub use memory::sources_in_memory_tell_all;
 pub use whole::run;

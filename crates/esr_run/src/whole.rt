@@ -36,6 +36,7 @@ use crate::asked::{Asked, asked_for};
 use crate::carry::carry;
 use crate::ended::Ended;
 use crate::fault::{faults_of, room_for_one};
+use crate::host::Host;
 use crate::law::{kept_laws, laws, only_now, quiet_laws, refusals};
 use crate::stop::Stop;
 use crate::unopened::{ended_at, stop_of};
@@ -111,17 +112,14 @@ fn carry_on<D, S: Sources, T: Targets, G: Gate, K: Told + Send + Sync, R: Thread
     alloc: Global,
     repo: Repo<D, K>,
     asked: &Asked,
-    sources: &S,
-    targets: &T,
-    gate: &G,
-    moment: u64,
+    host: &Host<'_, S, T, G>,
 ) -> Work<Repo<D, K>, Faults<D::Stage, D::Fetch, S::Shard, T::Target>, T::Target>
 where
     D: Depot + Send,
     D::Stage: Send,
     D::Fetch: Send,
     requires fresh { repo ≡ [] }
-    requires waits { MayWait K.start (S.told sources.now) (T.told targets.now) asked.now.part_size asked.now.workers }
+    requires waits { MayWait K.start (S.told host.now.sources.now) (T.told host.now.targets.now) asked.now.part_size asked.now.workers }
     requires good { first_bad asked.now.script ≡ None }
     requires numbered { HasNoTickets K.start }
     requires readers { HasNoReaders K.start }
@@ -132,8 +130,8 @@ where
     ensures once { AreOnce K.start result.repo }
     ensures tested { AreTested K.start result.repo }
     ensures removed { AreRemovedOnce result.repo }
-    ensures made { MadeFirst K.start (steps_of moment asked.now.script) [] result.repo }
-    ensures done { OnOk result.carried (AreDone K.start moment asked.now.script [] result.repo ⊎ HasFallen K.start moment asked.now.script [] result.repo) }
+    ensures made { MadeFirst K.start (steps_of host.now.moment asked.now.script) [] result.repo }
+    ensures done { OnOk result.carried (AreDone K.start host.now.moment asked.now.script [] result.repo ⊎ HasFallen K.start host.now.moment asked.now.script [] result.repo) }
     ensures whole { AreWhole K.start asked.now.workers (asks_check asked.now.script) result.repo }
     ensures few { AreFew asked.now.workers asked.now.script result.repo }
     ensures apart { AskedUnlessStopped K.start [] result.repo }
@@ -143,12 +141,12 @@ where
     let desk = Solo::<D, K, S::Shard, T::Target>::new(alloc, repo);
     let lines = asked.script.as_slice();
     let outside = Outside {
-        sources,
-        targets,
-        gate,
+        sources: host.sources,
+        targets: host.targets,
+        gate: host.gate,
         part_size: asked.part_size,
     };
-    let (desk, carried) = carry(rt, alloc, desk, lines, &outside, asked.workers, moment);
+    let (desk, carried) = carry(rt, alloc, desk, lines, &outside, asked.workers, host.moment);
     let (repo, faults, restored) = desk.into_parts();
     Work {
         repo,
@@ -164,10 +162,7 @@ fn run_told<D, S: Sources, T: Targets, G: Gate, K: Told + Send + Sync, R: Thread
     alloc: Global,
     opening: Opening<D>,
     asked: &Asked,
-    sources: &S,
-    targets: &T,
-    gate: &G,
-    moment: u64,
+    host: &Host<'_, S, T, G>,
 ) -> (
     Done<D, T::Target>,
     Faults<D::Stage, D::Fetch, S::Shard, T::Target>,
@@ -183,7 +178,7 @@ where
     requires alone { K.start.alone ≡ true }
     requires earlier { K.start.earlier_turns ≡ 0 }
     requires readers { HasNoReaders K.start }
-    requires outside { IsOutside K.start (S.told sources.now) (T.told targets.now) asked.now.part_size }
+    requires outside { IsOutside K.start (S.told host.now.sources.now) (T.told host.now.targets.now) asked.now.part_size }
     requires good { first_bad asked.now.script ≡ None }
     requires lines { AreNumbered asked.now.script }
     requires workers { (1 ≤ asked.now.workers) × (asked.now.workers ≤ 64) }
@@ -198,22 +193,20 @@ where
     ensures single { NoneTwice (log_of (D.look result.0.depot) K.clock result.0.history) }
     ensures removed { AreRemovedOnce (log_of (D.look result.0.depot) K.clock result.0.history) }
     ensures calm { IsCalm K.start.quiet (D.look result.0.depot).sure result.0.history }
-    ensures made { MadeFirst K.start (steps_of moment asked.now.script) [] (log_of (D.look result.0.depot) K.clock result.0.history) }
-    ensures done { (result.0.verdict.status ≡ 8) ⊎ (AreDone K.start moment asked.now.script [] (log_of (D.look result.0.depot) K.clock result.0.history) ⊎ HasFallen K.start moment asked.now.script []
+    ensures made { MadeFirst K.start (steps_of host.now.moment asked.now.script) [] (log_of (D.look result.0.depot) K.clock result.0.history) }
+    ensures done { (result.0.verdict.status ≡ 8) ⊎ (AreDone K.start host.now.moment asked.now.script [] (log_of (D.look result.0.depot) K.clock result.0.history) ⊎ HasFallen K.start host.now.moment asked.now.script []
         (log_of (D.look result.0.depot) K.clock result.0.history)) }
     ensures verified { AreWhole K.start asked.now.workers (asks_check asked.now.script) (log_of (D.look result.0.depot) K.clock result.0.history) }
     ensures few { AreFew asked.now.workers asked.now.script (log_of (D.look result.0.depot) K.clock result.0.history) }
     ensures apart { AskedUnlessStopped K.start [] (log_of (D.look result.0.depot) K.clock result.0.history) }
     ensures told { IsTold result.0.verdict.status result.0.verdict.text (Some (Carried asked.now.script result.0.history)) }
     ensures restored { (result.0.verdict.status ≡ 8) ⊎ AreTargetsOfLines (evidence D.Stage.faults D.Fetch.faults S.Shard.faults T.Target.faults S.Shard.told T.Target.told)
-        K.start moment asked.now.script (log_of (D.look result.0.depot) K.clock result.0.history) result.0.targets }
+        K.start host.now.moment asked.now.script (log_of (D.look result.0.depot) K.clock result.0.history) result.0.targets }
 {
     each_target_is_of_its_line::<D::Stage, D::Fetch, S::Shard, T::Target>();
     no_step_is_made_twice();
     let repo = Repo::<D, K>::from_opening(alloc, opening);
-    let worked = carry_on::<D, S, T, G, K, R>(
-        rt, alloc, repo, asked, sources, targets, gate, moment,
-    );
+    let worked = carry_on::<D, S, T, G, K, R>(rt, alloc, repo, asked, host);
     let Work {
         repo,
         faults,
@@ -239,10 +232,7 @@ fn open_and_carry<D: Depot + Send, S: Sources, T: Targets, G: Gate, R: Threads +
     depot: D,
     room: Vec<Fault<D::Stage, D::Fetch, S::Shard, T::Target>>,
     asked: &Asked,
-    sources: &S,
-    targets: &T,
-    gate: &G,
-    moment: u64,
+    host: &Host<'_, S, T, G>,
 ) -> (
     Done<D, T::Target>,
     Faults<D::Stage, D::Fetch, S::Shard, T::Target>,
@@ -256,19 +246,19 @@ where
     requires good { first_bad asked.now.script ≡ None }
     requires lines { AreNumbered asked.now.script }
     requires workers { (1 ≤ asked.now.workers) × (asked.now.workers ≤ 64) }
-    ensures run { IsUnopened (evidence D.Stage.faults D.Fetch.faults S.Shard.faults T.Target.faults S.Shard.told T.Target.told) (telling (S.told sources.now) (T.told targets.now)) (D.look depot)
+    ensures run { IsUnopened (evidence D.Stage.faults D.Fetch.faults S.Shard.faults T.Target.faults S.Shard.told T.Target.told) (telling (S.told host.now.sources.now) (T.told host.now.targets.now)) (D.look depot)
         (D.look result.0.depot) (D.faults depot) (D.faults result.0.depot) result.0.history result.1
-        ⊎ IsOpenedRun (evidence D.Stage.faults D.Fetch.faults S.Shard.faults T.Target.faults S.Shard.told T.Target.told) (telling (S.told sources.now) (T.told targets.now)) asked.now.part_size
-        asked.now.workers moment asked.now.script (D.look depot) (D.look result.0.depot) result.0.history result.1 }
-    ensures complete { OpensWell (evidence D.Stage.faults D.Fetch.faults S.Shard.faults T.Target.faults S.Shard.told T.Target.told) (telling (S.told sources.now) (T.told targets.now))
-        asked.now.part_size asked.now.workers moment asked.now.script (D.look depot) (D.look result.0.depot) result.0.history result.1 result.0.verdict.status }
+        ⊎ IsOpenedRun (evidence D.Stage.faults D.Fetch.faults S.Shard.faults T.Target.faults S.Shard.told T.Target.told) (telling (S.told host.now.sources.now) (T.told host.now.targets.now)) asked.now.part_size
+        asked.now.workers host.now.moment asked.now.script (D.look depot) (D.look result.0.depot) result.0.history result.1 }
+    ensures complete { OpensWell (evidence D.Stage.faults D.Fetch.faults S.Shard.faults T.Target.faults S.Shard.told T.Target.told) (telling (S.told host.now.sources.now) (T.told host.now.targets.now))
+        asked.now.part_size asked.now.workers host.now.moment asked.now.script (D.look depot) (D.look result.0.depot) result.0.history result.1 result.0.verdict.status }
     ensures told { IsVerdict result.0.verdict.status result.0.verdict.text
-        (IsOpenCause (evidence D.Stage.faults D.Fetch.faults S.Shard.faults T.Target.faults S.Shard.told T.Target.told) (telling (S.told sources.now) (T.told targets.now)) asked.now.part_size
-        asked.now.workers moment (D.look depot) (D.look result.0.depot) (D.faults depot) (D.faults result.0.depot) asked.now.script result.0.history result.1) }
+        (IsOpenCause (evidence D.Stage.faults D.Fetch.faults S.Shard.faults T.Target.faults S.Shard.told T.Target.told) (telling (S.told host.now.sources.now) (T.told host.now.targets.now)) asked.now.part_size
+        asked.now.workers host.now.moment (D.look depot) (D.look result.0.depot) (D.faults depot) (D.faults result.0.depot) asked.now.script result.0.history result.1) }
     ensures counted { IsCounted (D.faults depot) (D.faults result.0.depot) result.0.history }
     ensures named { AreDeposedSo result.0.history }
-    ensures restored { OpensRestored (evidence D.Stage.faults D.Fetch.faults S.Shard.faults T.Target.faults S.Shard.told T.Target.told) (telling (S.told sources.now) (T.told targets.now))
-        asked.now.part_size asked.now.workers moment asked.now.script (D.look depot) (D.look result.0.depot) result.0.history result.1 result.0.targets result.0.verdict.status }
+    ensures restored { OpensRestored (evidence D.Stage.faults D.Fetch.faults S.Shard.faults T.Target.faults S.Shard.told T.Target.told) (telling (S.told host.now.sources.now) (T.told host.now.targets.now))
+        asked.now.part_size asked.now.workers host.now.moment asked.now.script (D.look depot) (D.look result.0.depot) result.0.history result.1 result.0.targets result.0.verdict.status }
 {
     laws();
     quiet_laws::<D::Stage, D::Fetch, S::Shard, T::Target>();
@@ -276,9 +266,7 @@ where
     match open_container(alloc, depot) {
         Ok(opening) => {
             only_now(&opening.depot);
-            run_told::<D, S, T, G, Brand, R>(
-                rt, alloc, opening, asked, sources, targets, gate, moment,
-            )
+            run_told::<D, S, T, G, Brand, R>(rt, alloc, opening, asked, host)
         }
         Err((depot, refusal)) => {
             let (stop, fetch) = stop_of(refusal);
@@ -294,10 +282,7 @@ fn carry_out<D: Depot + Send, S: Sources, T: Targets, G: Gate, I: Lines, R: Thre
     words: &Words,
     script: &mut I,
     depot: D,
-    sources: &S,
-    targets: &T,
-    gate: &G,
-    moment: u64,
+    host: &Host<'_, S, T, G>,
 ) -> (
     Done<D, T::Target>,
     Faults<D::Stage, D::Fetch, S::Shard, T::Target>,
@@ -306,20 +291,20 @@ where
     D::Stage: Send,
     D::Fetch: Send,
     ensures run { IsRunOf (evidence D.Stage.faults D.Fetch.faults S.Shard.faults T.Target.faults S.Shard.told T.Target.told)
-        (record { words = words.now; script = I.left script.old; faults = I.faults script.old; moment = moment }) (telling (S.told sources.now) (T.told targets.now))
+        (record { words = words.now; script = I.left script.old; faults = I.faults script.old; moment = host.now.moment }) (telling (S.told host.now.sources.now) (T.told host.now.targets.now))
         (D.look depot) (D.look result.0.depot) (D.faults depot) (D.faults result.0.depot) result.0.history result.1 }
     ensures told { IsVerdict result.0.verdict.status result.0.verdict.text
         (IsCauseOf (evidence D.Stage.faults D.Fetch.faults S.Shard.faults T.Target.faults S.Shard.told T.Target.told)
-        (record { words = words.now; script = I.left script.old; faults = I.faults script.old; moment = moment }) (telling (S.told sources.now) (T.told targets.now)) (I.faults script.new)
+        (record { words = words.now; script = I.left script.old; faults = I.faults script.old; moment = host.now.moment }) (telling (S.told host.now.sources.now) (T.told host.now.targets.now)) (I.faults script.new)
         (D.look depot) (D.look result.0.depot) (D.faults depot) (D.faults result.0.depot) result.0.history result.1) }
     ensures complete { (old new : ℕ) → IsComplete (evidence D.Stage.faults D.Fetch.faults S.Shard.faults T.Target.faults S.Shard.told T.Target.told)
-        (record { words = words.now; script = I.left script.old; faults = I.faults script.old; moment = moment }) (telling (S.told sources.now) (T.told targets.now)) (I.faults script.new)
+        (record { words = words.now; script = I.left script.old; faults = I.faults script.old; moment = host.now.moment }) (telling (S.told host.now.sources.now) (T.told host.now.targets.now)) (I.faults script.new)
         (D.look depot) (D.look result.0.depot) old new result.0.history result.1 result.0.verdict.status }
     ensures reader { IsReadFor (wanted_of (job_of words.now)) (I.left script.old) (I.left script.new) (I.faults script.old) (I.faults script.new) }
     ensures counted { IsCounted (D.faults depot) (D.faults result.0.depot) result.0.history }
     ensures named { AreDeposedSo result.0.history }
     ensures restored { HasRestored (evidence D.Stage.faults D.Fetch.faults S.Shard.faults T.Target.faults S.Shard.told T.Target.told)
-        (record { words = words.now; script = I.left script.old; faults = I.faults script.old; moment = moment }) (telling (S.told sources.now) (T.told targets.now)) (D.look depot)
+        (record { words = words.now; script = I.left script.old; faults = I.faults script.old; moment = host.now.moment }) (telling (S.told host.now.sources.now) (T.told host.now.targets.now)) (D.look depot)
         (D.look result.0.depot) result.0.history result.1 result.0.targets result.0.verdict.status }
 {
     only_now(&depot);
@@ -328,18 +313,16 @@ where
         Err(stop) => return (ended_at(alloc, depot, &stop), Seq::new(alloc)),
     };
     match room_for_one(alloc) {
-        Ok(room) => open_and_carry::<D, S, T, G, R>(
-            rt, alloc, depot, room, &asked, sources, targets, gate, moment,
-        ),
+        Ok(room) => open_and_carry::<D, S, T, G, R>(rt, alloc, depot, room, &asked, host),
         Err(AllocError) => (ended_at(alloc, depot, &Stop::Memory), Seq::new(alloc)),
     }
 }
 
 /// Carries out the script for which the words ask, or the one command, as a script of that line, on a container into which
 /// nothing was written, or one that an earlier run left, and prints what each line was answered. The script is read to its
-/// end where the words ask for one, and else not at all. `moment` is the time of the snapshots, in milliseconds. The files of
-/// restores go into `targets`; the shards that were restored come back in the result, by line, index and shard. Waits have as
-/// many workers as the words ask for, each in a thread of `rt`.
+/// end where the words ask for one, and else not at all. The files of restores go into the targets of the host; the shards
+/// that were restored come back in the result, by line, index and shard. Waits have as many workers as the words ask for,
+/// each in a thread of `rt`.
 pub fn run<
     D: Depot + Send,
     S: Sources,
@@ -354,35 +337,30 @@ pub fn run<
     words: &Words,
     script: &mut I,
     depot: D,
-    sources: &S,
-    targets: &T,
-    gate: &G,
-    moment: u64,
+    host: &Host<'_, S, T, G>,
     out: &mut O,
 ) -> Ended<D, S::Shard, T::Target>
 where
     D::Stage: Send,
     D::Fetch: Send,
     ensures legal { IsRunOf (evidence D.Stage.faults D.Fetch.faults S.Shard.faults T.Target.faults S.Shard.told T.Target.told)
-        (record { words = words.now; script = I.left script.old; faults = I.faults script.old; moment = moment }) (telling (S.told sources.now) (T.told targets.now))
+        (record { words = words.now; script = I.left script.old; faults = I.faults script.old; moment = host.now.moment }) (telling (S.told host.now.sources.now) (T.told host.now.targets.now))
         (D.look depot) (D.look result.depot) (D.faults depot) (D.faults result.depot) result.history result.faults }
     ensures end { IsEndOf result.status (O.contents out.old) (O.contents out.new) (O.faults out.old) (O.faults out.new)
         (IsCauseOf (evidence D.Stage.faults D.Fetch.faults S.Shard.faults T.Target.faults S.Shard.told T.Target.told)
-        (record { words = words.now; script = I.left script.old; faults = I.faults script.old; moment = moment }) (telling (S.told sources.now) (T.told targets.now)) (I.faults script.new)
+        (record { words = words.now; script = I.left script.old; faults = I.faults script.old; moment = host.now.moment }) (telling (S.told host.now.sources.now) (T.told host.now.targets.now)) (I.faults script.new)
         (D.look depot) (D.look result.depot) (D.faults depot) (D.faults result.depot) result.history result.faults) }
     ensures complete { IsComplete (evidence D.Stage.faults D.Fetch.faults S.Shard.faults T.Target.faults S.Shard.told T.Target.told)
-        (record { words = words.now; script = I.left script.old; faults = I.faults script.old; moment = moment }) (telling (S.told sources.now) (T.told targets.now)) (I.faults script.new)
+        (record { words = words.now; script = I.left script.old; faults = I.faults script.old; moment = host.now.moment }) (telling (S.told host.now.sources.now) (T.told host.now.targets.now)) (I.faults script.new)
         (D.look depot) (D.look result.depot) (O.faults out.old) (O.faults out.new) result.history result.faults result.status }
     ensures reader { IsReadFor (wanted_of (job_of words.now)) (I.left script.old) (I.left script.new) (I.faults script.old) (I.faults script.new) }
     ensures counted { IsCounted (D.faults depot) (D.faults result.depot) result.history }
     ensures named { AreDeposedSo result.history }
     ensures restored { HasRestored (evidence D.Stage.faults D.Fetch.faults S.Shard.faults T.Target.faults S.Shard.told T.Target.told)
-        (record { words = words.now; script = I.left script.old; faults = I.faults script.old; moment = moment }) (telling (S.told sources.now) (T.told targets.now)) (D.look depot)
+        (record { words = words.now; script = I.left script.old; faults = I.faults script.old; moment = host.now.moment }) (telling (S.told host.now.sources.now) (T.told host.now.targets.now)) (D.look depot)
         (D.look result.depot) result.history result.faults result.targets result.status }
 {
-    let (done, faults) = carry_out::<D, S, T, G, I, R>(
-        rt, alloc, words, script, depot, sources, targets, gate, moment,
-    );
+    let (done, faults) = carry_out::<D, S, T, G, I, R>(rt, alloc, words, script, depot, host);
     let status = print_verdict(out, &done.verdict);
     Ended {
         status,

@@ -77,6 +77,7 @@ fn alone(item: Item, words: &[Text]) -> Result<Item, Fault>
     if words.is_empty() {
         Ok(item)
     } else {
+        drop(item);
         Err(Fault::Bad(Why::Count))
     }
 }

@@ -177,7 +177,7 @@ fn asked_place(alloc: Global, words: &Words) -> Result<Text, WordsRefusal>
 {
     let texts = texts_of(alloc, words.as_slice())?;
     let matches = matches_of(alloc, texts.as_slice())?;
-    job_from(alloc, &matches)?;
+    drop(job_from(alloc, &matches)?);
     let place = text_of(&matches, "repo").unwrap_or("repo");
     Ok(Text::from_str(alloc, place)?)
 }

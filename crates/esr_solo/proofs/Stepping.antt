@@ -100,8 +100,16 @@ at_most_one (Err steps.Memory) = omega arith
 at_most_one (Err steps.TurnsSpent) = omega arith
 at_most_one (Err (steps.Refused refusal)) = omega arith
 
-pub counted : (n k left took all : ℕ) → left ≢ 0 → took ≤ 1 → n + left ≡ all → k ≡ n + took → k + (left - took) ≡ all
-counted n k left took all some few e d = omega (arith, some, few, e, d)
+pub counted : (n k left rest took all : ℕ) → left ≢ 0 → took ≤ 1 → rest ≡ left - took → n + left ≡ all → k ≡ n + took → k + rest ≡ all
+counted n k left rest took all some few is e d = omega (arith, some, few, is, e, d)
+
+-- ---- the history stays legal
+
+pub legal_did : {X : Type 0} (s : Start) (own new : List Moment) (who : ℕ) (step : Step) (ok : X → Reply) (result : Result X StepRefusal) → Legal s own → Did s own new who step ok result → Legal s new
+legal_did s own new who step ok (Ok x) l d = d.legal
+legal_did s own new who step ok (Err steps.Memory) l d = subst (Legal s) (sym d) l
+legal_did s own new who step ok (Err steps.TurnsSpent) l never = absurd never
+legal_did s own new who step ok (Err (steps.Refused refusal)) l d = d.legal
 
 -- why a step is refused, as the repository tells it
 abbrev pub HasGrounds : Start → List Moment → Type 0
@@ -215,15 +223,15 @@ teller_is hands.Verify calls who mine = mine
 
 -- ---- the invariant
 
-module _ {S F H T : Type 0} (e : Evidence S F H T) (s : Start) (own new : List Moment) (who : ℕ) (faults : List (Fault S F H T)) (targets : List (RestoredTarget T)) (left took all : ℕ)
-    (h : (length own + left ≡ all) × AreShown e s own faults × AreTargetsOf e s own targets × AreOnce s own × Numbered 1 s.world × (s.world.entries ≡ []) × AreTested s own × AreRemovedOnce own) (some : left ≢ 0) where
+module _ {S F H T : Type 0} (e : Evidence S F H T) (s : Start) (own new : List Moment) (who : ℕ) (faults : List (Fault S F H T)) (targets : List (RestoredTarget T)) (left rest all : ℕ)
+    (h : (length own + left ≡ all) × AreShown e s own faults × AreTargetsOf e s own targets × AreOnce s own × Numbered 1 s.world × (s.world.entries ≡ []) × AreTested s own × AreRemovedOnce own × Legal s own) (some : left ≢ 0) where
   -- after a step that neither reports a failure nor restores a shard
-  pub keeps : {X : Type 0} (step : Step) (ok : X → Reply) (result : Result X StepRefusal) → took ≡ turns_of result → ((x : X) → IsNoReportOf step (ok x)) → ((x : X) → IsNoRestoration step (ok x)) → IsNew s own who step
+  pub keeps : {X : Type 0} (step : Step) (ok : X → Reply) (result : Result X StepRefusal) → rest ≡ left - turns_of result → ((x : X) → IsNoReportOf step (ok x)) → ((x : X) → IsNoRestoration step (ok x)) → IsNew s own who step
       → Did s own new who step ok result
       → TestsBy s own new step result → RemovesBy own who step
-      → (length new + (left - took) ≡ all) × AreShown e s new faults × AreTargetsOf e s new targets × AreOnce s new × Numbered 1 s.world × (s.world.entries ≡ []) × AreTested s new × AreRemovedOnce new
+      → (length new + rest ≡ all) × AreShown e s new faults × AreTargetsOf e s new targets × AreOnce s new × Numbered 1 s.world × (s.world.entries ≡ []) × AreTested s new × AreRemovedOnce new × Legal s new
   keeps step ok result turns none unrestored unnoted d tests removals = (
-    counted (length own) (length new) left took all some (subst (λ (n : ℕ). n ≤ 1) (sym turns) (at_most_one result)) h.0 (grown s own new who step ok result d ∙ ap (λ (n : ℕ). length own + n) (sym turns)),
+    counted (length own) (length new) left rest (turns_of result) all some (at_most_one result) turns h.0 (grown s own new who step ok result d),
     did e s own new who step ok result faults none d h.1,
     targets_did e s own new who step ok result targets unrestored d h.2,
     once_did s own new who step ok result unnoted d h.3,
@@ -231,17 +239,18 @@ module _ {S F H T : Type 0} (e : Evidence S F H T) (s : Start) (own new : List M
     h.5,
     tested_did s own new who step ok result tests d h.6,
     removed_did s own new who step ok result removals d h.7,
+    legal_did s own new who step ok result h.8 d,
   )
 
   -- after the report of a failure whose cause is shown
-  pub keeps_report : (hand : Hand) (log : List Moment) (why : Why) (result : Result Unit StepRefusal) (roomy after : List (Fault S F H T)) (b : By S F H T) → took ≡ turns_of result → own ≡ log → IsTeller hand who
+  pub keeps_report : (hand : Hand) (log : List Moment) (why : Why) (result : Result Unit StepRefusal) (roomy after : List (Fault S F H T)) (b : By S F H T) → rest ≡ left - turns_of result → own ≡ log → IsTeller hand who
       → IsShown hand e s log who why b → roomy ≡ faults
       → after ≡ roomy ++ kept_by (all - left) b result → Did s own new who (fail_step hand why) (λ _. HasEnded) result
-      → (length new + (left - took) ≡ all) × AreShown e s new after × AreTargetsOf e s new targets × AreOnce s new × Numbered 1 s.world × (s.world.entries ≡ []) × AreTested s new × AreRemovedOnce new
+      → (length new + rest ≡ all) × AreShown e s new after × AreTargetsOf e s new targets × AreOnce s new × Numbered 1 s.world × (s.world.entries ≡ []) × AreTested s new × AreRemovedOnce new × Legal s new
   keeps_report hand log why result roomy after b turns view teller shown same is d =
       let n : all - left ≡ length own = place_is (length own) left all (all - left) h.0 refl in
       let at : after ≡ faults ++ kept_by (length own) b result = is ∙ ap (λ (l : List (Fault S F H T)). l ++ kept_by (all - left) b result) same ∙ ap (λ (k : ℕ). faults ++ kept_by k b result) n in (
-        counted (length own) (length new) left took all some (subst (λ (k : ℕ). k ≤ 1) (sym turns) (at_most_one result)) h.0 (grown s own new who (fail_step hand why) (λ _. HasEnded) result d ∙ ap (λ (k : ℕ). length own + k) (sym turns)),
+        counted (length own) (length new) left rest (turns_of result) all some (at_most_one result) turns h.0 (grown s own new who (fail_step hand why) (λ _. HasEnded) result d),
         subst (λ (l : List (Fault S F H T)). AreShown e s new l) (sym at)
             (reported e s hand own new who why result faults b teller (subst (λ (l : List Moment). IsShown hand e s l who why b) (sym view) shown) d h.1),
         targets_did e s own new who (fail_step hand why) (λ _. HasEnded) result targets (λ x. fail_restores hand why) d h.2,
@@ -250,19 +259,19 @@ module _ {S F H T : Type 0} (e : Evidence S F H T) (s : Start) (own new : List M
         h.5,
         tested_did s own new who (fail_step hand why) (λ _. HasEnded) result (fail_tests hand s own new why result) d h.6,
         removed_did s own new who (fail_step hand why) (λ _. HasEnded) result (fail_removes hand own who why) d h.7,
+        legal_did s own new who (fail_step hand why) (λ _. HasEnded) result h.8 d,
       )
     where
       place_is : (n left all place : ℕ) → n + left ≡ all → place ≡ all - left → place ≡ n
       place_is n left all place e d = omega (arith, e, d)
 
   -- after the end of a restore, which hands its target over
-  pub keeps_target : (log : List Moment) (files bytes : ℕ) (result : Result Unit StepRefusal) (roomy after : List (RestoredTarget T)) (target : RestoredTarget T) → took ≡ turns_of result → own ≡ log
+  pub keeps_target : (log : List Moment) (files bytes : ℕ) (result : Result Unit StepRefusal) (roomy after : List (RestoredTarget T)) (target : RestoredTarget T) → rest ≡ left - turns_of result → own ≡ log
       → IsFilled e s (reader_of s log who) files bytes target → roomy ≡ targets
       → after ≡ roomy ++ targets_by target result → Did s own new who (ReadStep (RestoredShard files bytes)) (λ _. HasEnded) result
-      → (length new + (left - took) ≡ all) × AreShown e s new faults × AreTargetsOf e s new after × AreOnce s new × Numbered 1 s.world × (s.world.entries ≡ []) × AreTested s new × AreRemovedOnce new
+      → (length new + rest ≡ all) × AreShown e s new faults × AreTargetsOf e s new after × AreOnce s new × Numbered 1 s.world × (s.world.entries ≡ []) × AreTested s new × AreRemovedOnce new × Legal s new
   keeps_target log files bytes result roomy after target turns view filled same is d = (
-    counted (length own) (length new) left took all some (subst (λ (n : ℕ). n ≤ 1) (sym turns) (at_most_one result)) h.0
-        (grown s own new who (ReadStep (RestoredShard files bytes)) (λ _. HasEnded) result d ∙ ap (λ (n : ℕ). length own + n) (sym turns)),
+    counted (length own) (length new) left rest (turns_of result) all some (at_most_one result) turns h.0 (grown s own new who (ReadStep (RestoredShard files bytes)) (λ _. HasEnded) result d),
     did e s own new who (ReadStep (RestoredShard files bytes)) (λ _. HasEnded) result faults (λ x why told ended. cc) d h.1,
     subst (λ (l : List (RestoredTarget T)). AreTargetsOf e s new l) (sym (is ∙ ap (λ (l : List (RestoredTarget T)). l ++ targets_by target result) same))
         (target_listed e s own new who files bytes result targets target (subst (λ (l : List Moment). IsFilled e s (reader_of s l who) files bytes target) (sym view) filled) d h.2),
@@ -271,4 +280,5 @@ module _ {S F H T : Type 0} (e : Evidence S F H T) (s : Start) (own new : List M
     h.5,
     tested_did s own new who (ReadStep (RestoredShard files bytes)) (λ _. HasEnded) result tt d h.6,
     removed_did s own new who (ReadStep (RestoredShard files bytes)) (λ _. HasEnded) result tt d h.7,
+    legal_did s own new who (ReadStep (RestoredShard files bytes)) (λ _. HasEnded) result h.8 d,
   )

@@ -1,6 +1,6 @@
 //! The steps that a line of a script asks for: each is that of the repository, while turns are left.
 use crate::Solo;
-use crate::solo::turns;
+use crate::solo::spend;
 use esr_depot::Depot;
 use esr_desk::{AcceptedRestore, Attempt, Client, CloneAsk, Look, Named, NewBlob, StepRefusal};
 use esr_names::{BlobName, Id, SnapName};
@@ -12,24 +12,20 @@ use std::alloc::Global;
 
 impl<D: Depot, K: Told, H: Shard, T: Target> Client for Solo<D, K, H, T> {
     fn ask(&mut self, alloc: Global, command: &Command) -> Attempt<u64> {
-        self.repo.is_legal();
         if self.left == 0 {
             return Err(StepRefusal::TurnsSpent);
         }
-        let answer = esr_steps::ask(&mut self.repo, alloc, command);
-        self.left -= turns(&answer);
-        self.repo.grounds();
+        let answer = esr_client::ask(&mut self.repo, alloc, command);
+        spend(&mut self.left, &self.repo, &answer);
         answer
     }
 
     fn clone_snapshot(&mut self, alloc: Global, ask: &CloneAsk<'_>) -> Attempt<u64> {
-        self.repo.is_legal();
         if self.left == 0 {
             return Err(StepRefusal::TurnsSpent);
         }
-        let answer = esr_steps::clone_snapshot(&mut self.repo, alloc, ask);
-        self.left -= turns(&answer);
-        self.repo.grounds();
+        let answer = esr_client::clone_snapshot(&mut self.repo, alloc, ask);
+        spend(&mut self.left, &self.repo, &answer);
         answer
     }
 
@@ -39,90 +35,74 @@ impl<D: Depot, K: Told, H: Shard, T: Target> Client for Solo<D, K, H, T> {
         name: &SnapName,
         place: &Text,
     ) -> Attempt<AcceptedRestore> {
-        self.repo.is_legal();
         if self.left == 0 {
             return Err(StepRefusal::TurnsSpent);
         }
-        let answer = esr_steps::restore(&mut self.repo, alloc, name, place);
-        self.left -= turns(&answer);
-        self.repo.grounds();
+        let answer = esr_client::restore(&mut self.repo, alloc, name, place);
+        spend(&mut self.left, &self.repo, &answer);
         answer
     }
 
     fn look(&mut self, alloc: Global) -> Attempt<Look> {
-        self.repo.is_legal();
         if self.left == 0 {
             return Err(StepRefusal::TurnsSpent);
         }
-        let answer = esr_steps::look(&mut self.repo, alloc);
-        self.left -= turns(&answer);
-        self.repo.grounds();
+        let answer = esr_client::look(&mut self.repo, alloc);
+        spend(&mut self.left, &self.repo, &answer);
         answer
     }
 
     fn end_check(&mut self, alloc: Global, snapshots: u64, blobs: u64) -> Attempt {
-        self.repo.is_legal();
         if self.left == 0 {
             return Err(StepRefusal::TurnsSpent);
         }
-        let answer = esr_steps::end_check(&mut self.repo, alloc, snapshots, blobs);
-        self.left -= turns(&answer);
-        self.repo.grounds();
+        let answer = esr_client::end_check(&mut self.repo, alloc, snapshots, blobs);
+        spend(&mut self.left, &self.repo, &answer);
         answer
     }
 
     fn draw_test(&mut self, alloc: Global) -> Attempt<Id> {
-        self.repo.is_legal();
         if self.left == 0 {
             return Err(StepRefusal::TurnsSpent);
         }
-        let answer = esr_steps::draw_test(&mut self.repo, alloc);
-        self.left -= turns(&answer);
-        self.repo.grounds();
+        let answer = esr_client::draw_test(&mut self.repo, alloc);
+        spend(&mut self.left, &self.repo, &answer);
         answer
     }
 
     fn begin_test(&mut self, alloc: Global, blob: NewBlob) -> Attempt<Named<D::Stage>> {
-        self.repo.is_legal();
         if self.left == 0 {
             return Err(StepRefusal::TurnsSpent);
         }
-        let answer = esr_steps::begin_test(&mut self.repo, alloc, blob.name, blob.room);
-        self.left -= turns(&answer);
-        self.repo.grounds();
+        let answer = esr_client::begin_test(&mut self.repo, alloc, blob.name, blob.room);
+        spend(&mut self.left, &self.repo, &answer);
         answer
     }
 
     fn commit_test(&mut self, alloc: Global, name: BlobName, stage: D::Stage) -> Attempt {
-        self.repo.is_legal();
         if self.left == 0 {
             return Err(StepRefusal::TurnsSpent);
         }
-        let answer = esr_steps::commit_test(&mut self.repo, alloc, Named { name, stage });
-        self.left -= turns(&answer);
-        self.repo.grounds();
+        let answer = esr_client::commit_test(&mut self.repo, alloc, Named { name, stage });
+        spend(&mut self.left, &self.repo, &answer);
         answer
     }
 
     fn remove_tests(&mut self, alloc: Global, names: &Seq<BlobName>) -> Attempt {
-        self.repo.is_legal();
         if self.left == 0 {
             return Err(StepRefusal::TurnsSpent);
         }
-        let answer = esr_steps::remove_tests(&mut self.repo, alloc, names);
-        self.left -= turns(&answer);
-        self.repo.grounds();
+        let answer = esr_client::remove_tests(&mut self.repo, alloc, names);
+        spend(&mut self.left, &self.repo, &answer);
         answer
     }
 
     fn end_verification(&mut self, alloc: Global) -> Attempt {
-        self.repo.is_legal();
         if self.left == 0 {
             return Err(StepRefusal::TurnsSpent);
         }
-        let answer = esr_steps::end_verification(&mut self.repo, alloc);
-        self.left -= turns(&answer);
-        self.repo.grounds();
+        let answer = esr_client::end_verification(&mut self.repo, alloc);
+        spend(&mut self.left, &self.repo, &answer);
         answer
     }
 }

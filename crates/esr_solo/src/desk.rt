@@ -13,7 +13,7 @@ ghost use Rattle.esr_desk.specs.Shown.{IsShown};
 
 use crate::Solo;
 use crate::kept::{keep, list};
-use crate::solo::{TURNS, turns};
+use crate::solo::{TURNS, spend};
 use esr_depot::{Commit, Depot, Listing};
 use esr_desk::{
     Attempt, Basis, Desk, Failure, Named, NewBlob, Planned, RestoreEnd, StepRefusal, Unended, Unit,
@@ -47,36 +47,30 @@ impl<D: Depot, K: Told, H: Shard, T: Target> Desk for Solo<D, K, H, T> {
     }
 
     fn take(&mut self, alloc: Global) -> Attempt<Option<Unit>> {
-        self.repo.is_legal();
         each_ticket_is_new();
         if self.left == 0 {
             return Err(StepRefusal::TurnsSpent);
         }
-        let answer = esr_steps::take(&mut self.repo, alloc);
-        self.left -= turns(&answer);
-        self.repo.grounds();
+        let answer = esr_client::take(&mut self.repo, alloc);
+        spend(&mut self.left, &self.repo, &answer);
         answer
     }
 
     fn elect(&mut self, alloc: Global) -> Attempt<u64> {
-        self.repo.is_legal();
         if self.left == 0 {
             return Err(StepRefusal::TurnsSpent);
         }
-        let answer = esr_steps::elect(&mut self.repo, alloc);
-        self.left -= turns(&answer);
-        self.repo.grounds();
+        let answer = esr_client::elect(&mut self.repo, alloc);
+        spend(&mut self.left, &self.repo, &answer);
         answer
     }
 
     fn fetch(&mut self, alloc: Global, who: Who, name: BlobName) -> Attempt<Option<Self::Fetch>> {
-        self.repo.is_legal();
         if self.left == 0 {
             return Err(StepRefusal::TurnsSpent);
         }
         let answer = esr_steps::fetch(&mut self.repo, alloc, who.hand, who.number, name);
-        self.left -= turns(&answer);
-        self.repo.grounds();
+        spend(&mut self.left, &self.repo, &answer);
         answer
     }
 
@@ -90,7 +84,6 @@ impl<D: Depot, K: Told, H: Shard, T: Target> Desk for Solo<D, K, H, T> {
         ensures kept { OnErr result (own_of K.start self.new failure.who.number ≡ own_of K.start self.old failure.who.number) }
         ensures calls { calls_at 0 self.new ≡ called_by failure.who.hand self.new (fail_step failure.who.hand (why_of failure.why)) (λ _. HasEnded) result (calls_at 0 self.old) }
     {
-        self.repo.is_legal();
         let Failure { who, why, by } = failure;
         if self.left == 0 {
             drop(by);
@@ -102,31 +95,26 @@ impl<D: Depot, K: Told, H: Shard, T: Target> Desk for Solo<D, K, H, T> {
         }
         let place = TURNS - self.left;
         let answer = esr_steps::fail(&mut self.repo, alloc, who.hand, who.number, why);
-        self.left -= turns(&answer);
-        self.repo.grounds();
+        spend(&mut self.left, &self.repo, &answer);
         keep(&mut self.faults, place, by, &answer);
         answer
     }
 
     fn draw(&mut self, alloc: Global, ticket: u64, count: u64) -> Attempt<Id> {
-        self.repo.is_legal();
         if self.left == 0 {
             return Err(StepRefusal::TurnsSpent);
         }
         let answer = esr_steps::draw(&mut self.repo, alloc, ticket, count);
-        self.left -= turns(&answer);
-        self.repo.grounds();
+        spend(&mut self.left, &self.repo, &answer);
         answer
     }
 
     fn begin(&mut self, alloc: Global, ticket: u64, blob: NewBlob) -> Attempt<Named<Self::Stage>> {
-        self.repo.is_legal();
         if self.left == 0 {
             return Err(StepRefusal::TurnsSpent);
         }
         let answer = esr_steps::begin(&mut self.repo, alloc, ticket, blob.name, blob.room);
-        self.left -= turns(&answer);
-        self.repo.grounds();
+        spend(&mut self.left, &self.repo, &answer);
         answer
     }
 
@@ -137,13 +125,11 @@ impl<D: Depot, K: Told, H: Shard, T: Target> Desk for Solo<D, K, H, T> {
         name: BlobName,
         stage: Self::Stage,
     ) -> Attempt<Commit> {
-        self.repo.is_legal();
         if self.left == 0 {
             return Err(StepRefusal::TurnsSpent);
         }
         let answer = esr_steps::commit(&mut self.repo, alloc, ticket, Named { name, stage });
-        self.left -= turns(&answer);
-        self.repo.grounds();
+        spend(&mut self.left, &self.repo, &answer);
         answer
     }
 
@@ -154,40 +140,33 @@ impl<D: Depot, K: Told, H: Shard, T: Target> Desk for Solo<D, K, H, T> {
         name: BlobName,
         stage: Self::Stage,
     ) -> Attempt {
-        self.repo.is_legal();
         if self.left == 0 {
             return Err(StepRefusal::TurnsSpent);
         }
         let answer = esr_steps::latest(&mut self.repo, alloc, ticket, Named { name, stage });
-        self.left -= turns(&answer);
-        self.repo.grounds();
+        spend(&mut self.left, &self.repo, &answer);
         answer
     }
 
     fn raise(&mut self, alloc: Global, ticket: u64) -> Attempt<u64> {
-        self.repo.is_legal();
         if self.left == 0 {
             return Err(StepRefusal::TurnsSpent);
         }
         let answer = esr_steps::raise(&mut self.repo, alloc, ticket);
-        self.left -= turns(&answer);
-        self.repo.grounds();
+        spend(&mut self.left, &self.repo, &answer);
         answer
     }
 
     fn settle(&mut self, alloc: Global, ticket: u64, root: &RootData) -> Attempt {
-        self.repo.is_legal();
         if self.left == 0 {
             return Err(StepRefusal::TurnsSpent);
         }
         let answer = esr_steps::settle(&mut self.repo, alloc, ticket, root);
-        self.left -= turns(&answer);
-        self.repo.grounds();
+        spend(&mut self.left, &self.repo, &answer);
         answer
     }
 
     fn plan(&mut self, alloc: Global, ticket: u64, basis: &Basis<'_>) -> Attempt<Planned> {
-        self.repo.is_legal();
         if self.left == 0 {
             return Err(StepRefusal::TurnsSpent);
         }
@@ -199,52 +178,43 @@ impl<D: Depot, K: Told, H: Shard, T: Target> Desk for Solo<D, K, H, T> {
             basis.uuids,
             basis.shards,
         );
-        self.left -= turns(&answer);
-        self.repo.grounds();
+        spend(&mut self.left, &self.repo, &answer);
         answer
     }
 
     fn list(&mut self, alloc: Global, ticket: u64, after: Option<&str>) -> Attempt<Listing> {
-        self.repo.is_legal();
         if self.left == 0 {
             return Err(StepRefusal::TurnsSpent);
         }
         let answer = esr_steps::list(&mut self.repo, alloc, ticket, after);
-        self.left -= turns(&answer);
-        self.repo.grounds();
+        spend(&mut self.left, &self.repo, &answer);
         answer
     }
 
     fn settle_delete(&mut self, alloc: Global, ticket: u64, root: &RootData) -> Attempt {
-        self.repo.is_legal();
         if self.left == 0 {
             return Err(StepRefusal::TurnsSpent);
         }
         let answer = esr_steps::settle_delete(&mut self.repo, alloc, ticket, root);
-        self.left -= turns(&answer);
-        self.repo.grounds();
+        spend(&mut self.left, &self.repo, &answer);
         answer
     }
 
     fn remove(&mut self, alloc: Global, ticket: u64, names: &Seq<BlobName>) -> Attempt {
-        self.repo.is_legal();
         if self.left == 0 {
             return Err(StepRefusal::TurnsSpent);
         }
         let answer = esr_steps::remove(&mut self.repo, alloc, ticket, names);
-        self.left -= turns(&answer);
-        self.repo.grounds();
+        spend(&mut self.left, &self.repo, &answer);
         answer
     }
 
     fn end_shard(&mut self, alloc: Global, ticket: u64, outcome: &ShardResult) -> Attempt {
-        self.repo.is_legal();
         if self.left == 0 {
             return Err(StepRefusal::TurnsSpent);
         }
         let answer = esr_steps::end_shard(&mut self.repo, alloc, ticket, outcome);
-        self.left -= turns(&answer);
-        self.repo.grounds();
+        spend(&mut self.left, &self.repo, &answer);
         answer
     }
 
@@ -260,7 +230,6 @@ impl<D: Depot, K: Told, H: Shard, T: Target> Desk for Solo<D, K, H, T> {
         ensures target { IfErr result (λ u. u.target ≡ done.target) }
         ensures calls { calls_at 0 self.new ≡ calls_at 0 self.old }
     {
-        self.repo.is_legal();
         let RestoreEnd {
             ticket,
             files,
@@ -276,52 +245,43 @@ impl<D: Depot, K: Told, H: Shard, T: Target> Desk for Solo<D, K, H, T> {
             return Err(Unended { refusal, target });
         }
         let answer = esr_steps::end_restore(&mut self.repo, alloc, ticket, files, bytes);
-        self.left -= turns(&answer);
-        self.repo.grounds();
+        spend(&mut self.left, &self.repo, &answer);
         list(&mut self.targets, target, answer)
     }
 
     fn end_delete(&mut self, alloc: Global, ticket: u64) -> Attempt {
-        self.repo.is_legal();
         if self.left == 0 {
             return Err(StepRefusal::TurnsSpent);
         }
         let answer = esr_steps::end_delete(&mut self.repo, alloc, ticket);
-        self.left -= turns(&answer);
-        self.repo.grounds();
+        spend(&mut self.left, &self.repo, &answer);
         answer
     }
 
     fn end_drop(&mut self, alloc: Global, ticket: u64) -> Attempt {
-        self.repo.is_legal();
         if self.left == 0 {
             return Err(StepRefusal::TurnsSpent);
         }
         let answer = esr_steps::end_drop(&mut self.repo, alloc, ticket);
-        self.left -= turns(&answer);
-        self.repo.grounds();
+        spend(&mut self.left, &self.repo, &answer);
         answer
     }
 
     fn end_cleanup(&mut self, alloc: Global, ticket: u64) -> Attempt {
-        self.repo.is_legal();
         if self.left == 0 {
             return Err(StepRefusal::TurnsSpent);
         }
         let answer = esr_steps::end_cleanup(&mut self.repo, alloc, ticket);
-        self.left -= turns(&answer);
-        self.repo.grounds();
+        spend(&mut self.left, &self.repo, &answer);
         answer
     }
 
     fn finish(&mut self, alloc: Global, ticket: u64) -> Attempt {
-        self.repo.is_legal();
         if self.left == 0 {
             return Err(StepRefusal::TurnsSpent);
         }
         let answer = esr_steps::finish(&mut self.repo, alloc, ticket);
-        self.left -= turns(&answer);
-        self.repo.grounds();
+        spend(&mut self.left, &self.repo, &answer);
         answer
     }
 }

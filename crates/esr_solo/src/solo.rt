@@ -1,7 +1,13 @@
 //! A repository with a count of turns, the objects that failed, and the targets of restores.
-ghost use Rattle.std.specs.Prelude.{◌≡◌, [], refl};
+ghost use Rattle.std.specs.Prelude.{◌≡◌, ◌≢◌, ◌-◌, ◌^◌, ◌≤◌, ℕ, [], length, refl};
+ghost use Rattle.esr_core.specs.Entry.{Step, Refused as RefusedAs};
+ghost use Rattle.esr_desk.specs.declared.refusal.EntryRefusal.{EntryRefusal};
+ghost use Rattle.esr_desk.specs.declared.refusal.StepRefusal.TheVariants.{Refused};
 ghost use Rattle.esr_desk.specs.Evidence.{evidence};
+ghost use Rattle.esr_desk.specs.Last.{IsLast};
 ghost use Rattle.esr_desk.specs.Once.{AreOnce, AreRemovedOnce};
+ghost use Rattle.esr_desk.specs.Outcome.{Grounds};
+ghost use Rattle.esr_desk.specs.Refusals.{refusal_of};
 ghost use Rattle.esr_desk.specs.Restore.Targets.{AreTargetsOf};
 ghost use Rattle.esr_desk.specs.Verify.Tested.{AreTested};
 ghost use Rattle.esr_desk.specs.Shown.{AreShown};
@@ -43,6 +49,7 @@ impl<D: Depot, K: Told, H: Shard, T: Target> Model for Solo<D, K, H, T> {
     ghost use Rattle.esr_desk.specs.Numbered.{Numbered};
     ghost use Rattle.esr_desk.specs.Restore.Targets.{AreTargetsOf};
     ghost use Rattle.esr_desk.specs.Shown.{AreShown};
+    ghost use Rattle.esr_desk.specs.Start.{Legal};
     ghost use Rattle.esr_desk.specs.Verify.Tested.{AreTested};
 
     ghost view = { λ s. s.repo };
@@ -54,7 +61,8 @@ impl<D: Depot, K: Told, H: Shard, T: Target> Model for Solo<D, K, H, T> {
         × Numbered 1 K.start.world
         × (K.start.world.entries ≡ [])
         × AreTested K.start s.repo
-        × AreRemovedOnce s.repo };
+        × AreRemovedOnce s.repo
+        × Legal K.start s.repo };
 }
 
 impl<D: Depot, K: Told, H: Shard, T: Target> Sole for Solo<D, K, H, T> {
@@ -62,7 +70,6 @@ impl<D: Depot, K: Told, H: Shard, T: Target> Sole for Solo<D, K, H, T> {
 
     fn is_legal(&self) {
         let _left = self.left;
-        self.repo.is_legal();
     }
 
     fn left(&self) -> u64 {
@@ -82,6 +89,7 @@ impl<D: Depot, K: Told, H: Shard, T: Target> Solo<D, K, H, T> {
         ensures { result ≡ [] }
     {
         repo.numbers();
+        repo.is_legal();
         Solo {
             repo,
             left: TURNS,
@@ -116,11 +124,26 @@ impl<D: Depot, K: Told, H: Shard, T: Target> Solo<D, K, H, T> {
 }
 
 /// How many turns a step took by its answer: one where it added an entry, else none.
-pub(crate) fn turns<T: Drop>(answer: &Result<T, StepRefusal>) -> u64
+fn turns<T: Drop>(answer: &Result<T, StepRefusal>) -> u64
     ensures { result ≡ turns_of answer.now }
 {
     match answer {
         Err(StepRefusal::Memory | StepRefusal::TurnsSpent) => 0,
         _ => 1,
     }
+}
+
+/// Takes the turn of a step, by its answer, from those that are left. The step, if it was refused, was so on its grounds.
+pub(crate) fn spend<D: Depot, K: Told, T: Drop>(
+    left: &mut u64,
+    repo: &Repo<D, K>,
+    answer: &Result<T, StepRefusal>,
+)
+    requires { left.old ≢ 0 }
+    ensures left { left.new ≡ left.old - turns_of answer.now }
+    ensures grounds { (who : ℕ) (step : Step) (refusal : EntryRefusal) → length repo.now ≤ 2 ^ 41 → IsLast repo.now who step (RefusedAs (refusal_of refusal))
+        → Grounds K.start repo.now who (Refused refusal) }
+{
+    repo.grounds();
+    *left -= turns(answer);
 }

@@ -14,11 +14,10 @@ use Rattle.esr_core.specs.Tracked.{Tracked}
 use Rattle.esr_core.specs.Entry.{Why, PruneStep, FetchShard, PlanShards, SettlePruned, RemoveDoomed, EndDelete, DeleteFails, DrawnFrom, WasFetched, WasAbsent, WasSettled, WasRemoved, HasEnded, Refused, DepotFault, IdsSpent, StaleTerm, Moment}
 use Rattle.esr_core.specs.After.{with_given, change, is_stale, delete_settled, delete_failed_by, delete_failed}
 use Rattle.esr_core.specs.Allowed.{Allows, IsDeleting, FetchesShard, MayPlan, SettlesDeletion, RemovesDoomed, EndsDelete, FailsDeletion, FetchingShard, ShardMissing, FetchShardFails, Planning, PlanSpent, SettlingDelete, SettleDeleteStale, RemovingDoomed, RemoveDoomedFails, EndingDelete, FailingDelete, Pruning}
-use Rattle.esr_record.specs.Record.{Record}
 use Rattle.esr_root.specs.Root.{Root}
 use Rattle.esr_root.specs.Snaps.{lists}
+use Rattle.esr_record.specs.Record.{Record}
 use Rattle.esr_meta.specs.Info.{Info}
-use Rattle.esr_formats.specs.Formats.{formats}
 use Rattle.esr_formats.specs.Roots.{root_of, root_kind}
 use Rattle.esr_formats.specs.Clusters.{cluster_of, op_of}
 use Rattle.esr_ops.specs.Plan.{Plan, Seat, UnitKind, kind_of, seat_of, seat_out, IsPlanOf}
@@ -30,8 +29,9 @@ use Rattle.esr_repo.specs.May.{CanTell, IsNamed, MayNote, MayRefuse, MaySwap, Ma
 use Rattle.esr_repo.specs.Grown.{out_is}
 use Rattle.esr_repo.specs.DeleteWorld.{delete_is}
 use Rattle.esr_repo.specs.InfosAfter.{InfosAfter}
-use Rattle.esr_steps.proofs.Stepping.{told_if, next_given, same_seats}
-use Rattle.esr_steps.proofs.Swapping.{cluster_from}
+use Rattle.esr_repo.specs.Stepping.{told_if, root_kind_is}
+use Rattle.esr_repo.specs.WithOps.{cluster_from}
+use Rattle.esr_steps.proofs.Stepping.{next_given, same_seats}
 use Rattle.esr_steps.proofs.Written.{told_found}
 
 uuids_same : (us uuids : List ℕ) (p plan : Option Swap) → Deleting us p ≡ Deleting uuids plan → us ≡ uuids
@@ -80,10 +80,6 @@ may_fetch_shard s old log k name e tracked of_ops before =
     }
 
 -- ---- plan
-
-pub root_kind_is : (s : Start) → (formats_of s).root ≡ root_kind
-unfolding formats
-root_kind_is s = refl
 
 may_plan : (s : Start) (log : List Moment) (k : ℕ) (uuids : List ℕ) (shards : List PrunedShard) (image : Option Image) → Tracked (world_of s log) → AreOfOps (world_of s log) → CanPlan s (ticket_of s log k) uuids shards → CanTell s image
     → MayPlan (formats_of s) (world_of s log) k shards image

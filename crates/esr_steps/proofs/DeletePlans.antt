@@ -1,5 +1,5 @@
 -- The shards that a delete's ticket plans have their places in the root, and their count.
-use Rattle.std.proofs.Common.{◌≡◌, ℕ, zero, suc, ◌+◌, ◌*◌, ◌^◌, ◌<◌, ◌≤◌, Bool, true, false, cond, List, [], ◌∷◌, length, map, Option, Some, option_map, Result, Ok, Err, IfOk, refl, sym, ap, ◌∙◌, subst, arith}
+use Rattle.std.proofs.Common.{◌≡◌, ℕ, zero, suc, ◌+◌, ◌*◌, ◌^◌, ◌<◌, ◌≤◌, Bool, true, false, cond, List, [], ◌∷◌, length, map, Option, Some, option_map, refl, sym, ap, ◌∙◌, subst, arith}
 use Rattle.std.specs.Prelude.{count_by, if◌then◌else◌}
 use Rattle.std.proofs.lemmas.List.{length-map}
 use Rattle.std.proofs.lemmas.List.Recursion.{is_count_by}
@@ -71,8 +71,3 @@ plan_now s old log k uuids shards root new first e can copied new_is back =
       subst (λ (l : List Moment). CanPlan s (ticket_of s l k) uuids shards) (sym e) can,
       subst (λ (r : RootData). ReadsBack root_kind r) (new_is ∙ ap (λ (r : RootData). deleted_root r uuids shards first) root_is) back,
     )
-
--- what holds of the plan holds of what is answered
-pub planned_so : {A E : Type 0} (r : Result A E) (plan : A) (P : A → Type 0) → IfOk r (λ p. p ≡ plan) → P plan → IfOk r P
-planned_so (Ok p) plan P same holds = subst P (sym same) holds
-planned_so (Err e) plan P same holds = tt

@@ -26,7 +26,8 @@ use Rattle.esr_repo.specs.Next.{Added, Did}
 use Rattle.esr_repo.specs.Calls.{FetchDid}
 use Rattle.esr_repo.specs.DeleteWorld.{settle, delete_is}
 use Rattle.esr_repo.specs.Grown.{out_is, put_there, added_ticket, changed_ticket}
-use Rattle.esr_steps.proofs.Stepping.{did_from, added_from}
+use Rattle.esr_repo.specs.Stepping.{did_from}
+use Rattle.esr_steps.proofs.Stepping.{added_from}
 use Rattle.esr_steps.proofs.Written.{fetch_from}
 use Rattle.esr_steps.proofs.Swapping.{fell}
 

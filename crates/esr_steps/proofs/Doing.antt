@@ -14,7 +14,8 @@ use Rattle.esr_desk.specs.Start.{Start, formats_of, world_of, or_no_ticket, tick
 use Rattle.esr_repo.specs.Next.{Added}
 use Rattle.esr_repo.specs.May.{CanTell, MayNote}
 use Rattle.esr_repo.specs.Grown.{out_is, put_there, added_ticket}
-use Rattle.esr_steps.proofs.Stepping.{told_if, added_from}
+use Rattle.esr_repo.specs.Stepping.{told_if}
+use Rattle.esr_steps.proofs.Stepping.{added_from}
 
 -- where the container tells, the ticket wrote what the result says
 done_allows : (s : Start) (log : List Moment) (k : ℕ) (r : ShardResult) (image : Option Image) → Tracked (world_of s log) → CanEnd s (ticket_of s log k) r → CanTell s image → SameBlobs (world_of s log) image

@@ -1,11 +1,10 @@
--- A look, and ids that are drawn.
+-- Ids that are drawn.
 use Rattle.std.proofs.Common.{◌≡◌, ℕ, suc, ◌+◌, ◌<◌, ◌≤◌, true, List, Option, Some, None, refl, sym, ap, ◌∙◌, subst}
 use Rattle.esr_model.specs.Kept.{first_id}
-use Rattle.esr_model.specs.Values.{RootSnap}
 use Rattle.esr_core.specs.World.{World, Ticket}
-use Rattle.esr_core.specs.Entry.{DrawStep, LookStep, DrawnFrom, Looked, Refused, IdsSpent, Moment}
+use Rattle.esr_core.specs.Entry.{DrawStep, DrawnFrom, Refused, IdsSpent, Moment}
 use Rattle.esr_core.specs.After.{change, with_given}
-use Rattle.esr_core.specs.Allowed.{MayDraw, Allows, Looking, Drawing, DrawSpent}
+use Rattle.esr_core.specs.Allowed.{MayDraw, Allows, Drawing, DrawSpent}
 use Rattle.std.specs.FinMap as fin
 use Rattle.esr_ops.specs.Plan.{Plan, seat_out, IsPlanOf}
 use Rattle.esr_steps.proofs.Stepping.{same_seats}
@@ -14,20 +13,6 @@ use Rattle.esr_desk.specs.Start.{Start, formats_of, world_of, ticket_of}
 use Rattle.esr_repo.specs.Next.{Added}
 use Rattle.esr_repo.specs.May.{MayNote, MayRefuse}
 use Rattle.esr_repo.specs.Grown.{out_is, added_ticket, changed_ticket}
-
--- ---- a look
-
-pub may_look : (s : Start) (log : List Moment) (snapshots : List RootSnap) (safe next : ℕ) → snapshots ≡ (world_of s log).root.snapshots → safe ≡ (world_of s log).safe → next ≡ (world_of s log).next_id
-    → MayNote s log 0 LookStep (Looked snapshots safe) None next
-may_look s log snapshots safe next listed safe_is next_is = record {
-  plain = refl;
-  allows = λ image tells same. subst (λ (x : List RootSnap). Allows (formats_of s) s.part_size (world_of s log) 0 LookStep (Looked x safe) image) (sym listed)
-      (subst (λ (n : ℕ). Allows (formats_of s) s.part_size (world_of s log) 0 LookStep (Looked (world_of s log).root.snapshots n) image) (sym safe_is) (Looking image same));
-  plan_is = λ image old h. h;
-  next_is = λ image. next_is;
-}
-
--- ---- ids
 
 may_draw : (s : Start) (log : List Moment) (k n : ℕ) → CanDraw s (ticket_of s log k) n → MayDraw (formats_of s) (world_of s log) k n
 may_draw s log k n can = record { t = ticket_of s log k; out = out_is s log k can.out; shard = can.shard; once = can.once; some = can.some; most = can.most; few = can.few }

@@ -22,27 +22,24 @@ use Rattle.esr_desk.specs.Refusals.{refusal_of}
 use Rattle.esr_desk.specs.Start.{Start, formats_of, world_of, or_no_ticket, ticket_of}
 use Rattle.esr_desk.specs.Own.{or_no_reader, reader_of, caller_of, as_client, own_of}
 use Rattle.esr_desk.specs.Once.{IsFresh}
-use Rattle.esr_desk.specs.Hands.{fetch_step, fail_step, own_fetched, own_failed, MayFail}
-use Rattle.esr_desk.specs.Hands.{MayFetch as MayFetchSo}
+use Rattle.esr_desk.specs.Hands.{fetch_step, fail_step, own_fetched, own_failed, MayFail, MayFetch as MayFetchSo}
 use Rattle.esr_repo.specs.Client.{ReadsOwn}
 use Rattle.esr_repo.specs.Tickets.{AreOfOps}
 use Rattle.esr_repo.specs.Next.{Added, CallersTold, AddedOr, Did}
 use Rattle.esr_repo.specs.May.{MayNote, MayFetch}
-use Rattle.esr_steps.specs.Hands.{IsPlanAfter}
 use Rattle.esr_repo.specs.Calls.{FetchDid}
 use Rattle.esr_repo.specs.Grown.{added_ticket, added_reader, reading_is, own_same}
+use Rattle.esr_repo.specs.Fresh.{free_fresh}
+use Rattle.esr_repo.specs.Stepping.{refused_caller}
+use Rattle.esr_repo.specs.Repo.{AreTests}
+use Rattle.esr_steps.specs.Hands.{IsPlanAfter}
 use Rattle.esr_steps.proofs.Stepping.{kept_by}
-use Rattle.esr_steps.proofs.Fresh.{free_fresh}
-use Rattle.esr_steps.proofs.CallerSteps.{refused_caller}
 use Rattle.esr_steps.proofs.Written.{may_fetch, fetch_from, fetched_ticket}
 use Rattle.esr_steps.proofs.Ended.{may_fail, failed_ticket}
-use Rattle.esr_steps.proofs.DeleteTickets.{shard_fetched}
-use Rattle.esr_steps.proofs.DeleteTickets.{failed_ticket as failed_delete}
+use Rattle.esr_steps.proofs.DeleteTickets.{shard_fetched, failed_ticket as failed_delete}
 use Rattle.esr_steps.proofs.DeleteMays.{may_fetch_shard, may_fail_delete}
 use Rattle.esr_steps.proofs.Reading.{no_zero, reader_kept_by, may_read, read_reader, may_note_unrestored, unrestored_reader}
-use Rattle.esr_steps.proofs.Checks.{may_fetch_reached, may_note_unchecked, unchecked_caller}
-use Rattle.esr_steps.proofs.Verifying.{may_fetch_test, fetched_caller, may_note_unverified}
-use Rattle.esr_repo.specs.Repo.{AreTests}
+use Rattle.esr_steps.proofs.CallerHands.{may_fetch_reached, may_note_unchecked, unchecked_caller, may_fetch_test, fetched_caller, may_note_unverified}
 
 -- a step that neither asks, looks nor reads leaves what who 0 has done, and so do those of other numbers
 abbrev LeavesCaller : ℕ → Step → Type 0

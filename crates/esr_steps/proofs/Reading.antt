@@ -23,7 +23,8 @@ use Rattle.esr_repo.specs.Next.{Added, AddedOr}
 use Rattle.esr_repo.specs.May.{IsFound, MayNote, MayFetch}
 use Rattle.esr_repo.specs.Calls.{FetchDid}
 use Rattle.esr_repo.specs.Grown.{added_reader, reading_is, reader_there}
-use Rattle.esr_steps.proofs.Stepping.{told_if, added_from}
+use Rattle.esr_repo.specs.Stepping.{told_if}
+use Rattle.esr_steps.proofs.Stepping.{added_from}
 use Rattle.esr_steps.proofs.Written.{fetch_from}
 
 -- ---- what leaves it

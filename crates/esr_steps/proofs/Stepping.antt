@@ -1,5 +1,5 @@
 -- What a step makes of its ticket, whatever is answered.
-use Rattle.std.proofs.Common.{◌≡◌, ℕ, Bool, true, false, cond, List, Option, Some, None, Result, Ok, Err, OnOk, IfErr, IsErrAnd, nat_cmp, refl, sym, ap, ◌∙◌, subst}
+use Rattle.std.proofs.Common.{◌≡◌, ℕ, Bool, true, false, cond, List, Option, Some, None, nat_cmp, refl, sym, ap, ◌∙◌, subst}
 use Rattle.std.specs.Prelude.{is_some}
 use Rattle.std.specs.Ordering.{eq_by_cmp}
 use Rattle.std.specs.Cmp.{nat_cmp_total}
@@ -11,26 +11,16 @@ use Rattle.esr_model.specs.Image.{Image}
 use Rattle.esr_core.specs.World.{World, Ticket}
 use Rattle.esr_core.specs.Entry.{Step, Reply, Refused, DepotFault, Moment}
 use Rattle.esr_core.specs.After.{with_given, change, faulted}
-use Rattle.esr_core.specs.Allowed.{Told}
 use Rattle.esr_desk.specs.Refusals.{refusal_of}
 use Rattle.esr_desk.specs.declared.refusal.StepRefusal.{StepRefusal}
 use Rattle.esr_desk.specs.declared.refusal.StepRefusal.TheVariants as steps
 use Rattle.esr_desk.specs.declared.refusal.EntryRefusal.TheVariants as code
 use Rattle.esr_desk.specs.Start.{Start, formats_of, world_of, or_no_ticket, ticket_of}
 use Rattle.esr_desk.specs.Own.{reader_of}
-use Rattle.esr_repo.specs.Next.{Added, AddedOr, Did}
-use Rattle.esr_repo.specs.May.{CanTell}
+use Rattle.esr_repo.specs.Next.{Added, AddedOr}
 use Rattle.esr_repo.specs.Grown.{seat_found, reader_found, added_ticket}
 
--- what holds where the container tells
-pub told_if : (s : Start) (image : Option Image) (P : Type 0) → CanTell s image → (s.tells ≡ true → P) → Told image (λ blobs. P)
-told_if s None P tells h = tt
-told_if s (Some i) P tells h = h (tells i refl)
-
--- a step after a check that added nothing
-pub did_from : {X : Type 0} (s : Start) (old mid new : List Moment) (who : ℕ) (step : Step) (ok : X → Reply) (r : Result X StepRefusal) → mid ≡ old → Did s mid new who step ok r → Did s old new who step ok r
-did_from s old mid new who step ok r e d = subst (λ (log : List Moment). Did s log new who step ok r) e d
-
+-- an entry after a check that added nothing
 pub added_from : (s : Start) (old mid new : List Moment) (who : ℕ) (step : Step) (reply : Reply) → mid ≡ old → Added s mid new who step reply → Added s old new who step reply
 added_from s old mid new who step reply e a = subst (λ (log : List Moment). Added s log new who step reply) e a
 
@@ -60,16 +50,6 @@ same_seats tickets k t v there same q =
     go : (b : Bool) → eq_by_cmp nat_cmp q k ≡ b → seat_out (cond b (Some v) (fin.get tickets q)) ≡ seat_out (fin.get tickets q)
     go true e = same ∙ sym (ap seat_out (ap (fin.get tickets) (nat_cmp-IsAntisymmetric q k (tied (nat_cmp q k) e)) ∙ there))
     go false e = refl
-
--- what an added entry gives, where the step was made
-pub on_done : {X P : Type 0} (s : Start) (mid new : List Moment) (who : ℕ) (step : Step) (reply : Reply) (r : Result X StepRefusal) → Did s mid new who step (λ x. reply) r → (Added s mid new who step reply → P) → OnOk r P
-on_done s mid new who step reply (Ok x) did f = f did
-on_done s mid new who step reply (Err e) did f = tt
-
--- an error that is passed on
-pub err_passed : {T E : Type 0} (r : Result T E) (P : E → Type 0) (x : E) → IsErrAnd r (λ e. e ≡ x) → P x → IfErr r P
-err_passed (Ok t) P x is holds = tt
-err_passed (Err e) P x is holds = subst P (sym is) holds
 
 -- what the list keeps of a ticket that is out, which the look at the step has left
 pub seat_is_kept : (s : Start) (old log : List Moment) (k : ℕ) (p : Plan) → log ≡ old → (ticket_of s old k).out ≡ true → IsPlanOf (world_of s log) p → is_some (fin.get p.seats k) ≡ true

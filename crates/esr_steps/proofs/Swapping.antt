@@ -17,12 +17,12 @@ use Rattle.esr_core.specs.Entry.{RaiseStep, SettleStep, DroppedStep, RaisedTo, W
 use Rattle.esr_core.specs.After.{with_given, change, raised, settled_by, settled_of, dropped_of, has_text, fallen}
 use Rattle.esr_core.specs.Allowed.{HasCleaned, MayDrop, MayRaise, Raising, Settling, Dropping, RaiseStale, RaiseSpent, SettleStale, DropStale}
 use Rattle.esr_core.specs.Ranked.{Ranked}
+use Rattle.esr_root.specs.Root.{Root}
 use Rattle.esr_record.specs.Record.{Record, AreNumbers}
-use Rattle.esr_meta.specs.Info.{Info}
 use Rattle.esr_record.specs.Steps.{raised as record_raised}
 use Rattle.esr_record.specs.declared.steps.RecordRefusal.{RecordRefusal}
 use Rattle.esr_record.specs.declared.steps.RecordRefusal.TheVariants as records
-use Rattle.esr_root.specs.Root.{Root}
+use Rattle.esr_meta.specs.Info.{Info}
 use Rattle.esr_formats.specs.Roots.{root_of}
 use Rattle.esr_formats.specs.Clusters.{count_of, cluster_of, op_of}
 use Rattle.esr_ops.specs.Plan.{Plan, Seat, seat_of, IsPlanOf}
@@ -35,10 +35,12 @@ use Rattle.esr_desk.specs.declared.refusal.EntryRefusal.TheVariants as code
 use Rattle.esr_desk.specs.Start.{Start, formats_of, world_of, or_no_ticket, ticket_of}
 use Rattle.esr_repo.specs.Next.{Added, Did}
 use Rattle.esr_repo.specs.May.{CanTell, IsMadeInfo, MaySwap, MayRefuse}
-use Rattle.esr_steps.specs.Leave.{CanLeave}
 use Rattle.esr_repo.specs.InfosAfter.{InfosAfter}
 use Rattle.esr_repo.specs.Grown.{out_is, put_there, added_ticket, changed_ticket}
-use Rattle.esr_steps.proofs.Stepping.{told_if, next_given, added_from}
+use Rattle.esr_repo.specs.Stepping.{told_if}
+use Rattle.esr_repo.specs.WithOps.{cluster_from}
+use Rattle.esr_steps.specs.Leave.{CanLeave}
+use Rattle.esr_steps.proofs.Stepping.{next_given, added_from}
 
 abbrev IsFinal : Ticket → Type 0
 IsFinal t = (info : SnapInfo) × (results : List ShardResult) × (made : Command) × (t.work ≡ Finalize info results made)
@@ -172,14 +174,6 @@ raise_left s old new k (Err steps.Memory) can did = ap (λ (l : List Moment). ti
 raise_left s old new k (Err steps.TurnsSpent) can never = absurd never
 raise_left s old new k (Err (steps.Refused code.DepotFault)) can did = raise_fell s old k did.image (ticket_of s new k) can.out (added_ticket s old new k RaiseStep (Refused DepotFault) did k)
 raise_left s old new k (Err (steps.Refused x)) can did = added_ticket s old new k RaiseStep (Refused (refusal_of x)) did k
-
--- ---- the record of a list of ops
-
--- a record with the generations and the term of the world, and the ops of its plan
-pub cluster_from : (w : World) (c : Record) (p : Plan) → IsPlanOf w p → (cluster_of c).ledger ≡ ledger_of w → map op_of c.ops ≡ record_ops p.ops p.deletes → cluster_of c ≡ record_of w
-cluster_from w c p plan ledger ops =
-    let all : map op_of c.ops ≡ record_ops w.ops w.deletes = ops ∙ ap (λ (m : FinMap nat_cmp Op). record_ops m p.deletes) plan.ops ∙ ap (record_ops w.ops) plan.deletes in
-    λ i. record { ledger = ledger i; ops = all i }
 
 -- ---- the generation that is settled
 

@@ -22,12 +22,12 @@ use Rattle.esr_desk.specs.declared.refusal.StepRefusal.TheVariants as steps
 use Rattle.esr_desk.specs.declared.refusal.EntryRefusal.TheVariants as code
 use Rattle.esr_desk.specs.Start.{Start, formats_of, world_of, or_no_ticket, ticket_of}
 use Rattle.esr_repo.specs.Next.{Did}
-use Rattle.esr_repo.specs.May.{MayBegin, MayReplace, MayFetch, IsNamed}
-use Rattle.esr_repo.specs.May.{MayCommit as StepMayCommit}
+use Rattle.esr_repo.specs.May.{MayBegin, MayReplace, MayFetch, IsNamed, MayCommit as StepMayCommit}
 use Rattle.esr_repo.specs.Repo.{OwnIndices}
 use Rattle.esr_repo.specs.Tickets.{AreOfOps}
 use Rattle.esr_repo.specs.Calls.{CommitDid, FetchDid}
 use Rattle.esr_repo.specs.Grown.{out_is, added_ticket, changed_ticket}
+use Rattle.esr_repo.specs.Stepping.{commit_from}
 use Rattle.esr_steps.proofs.Stepping.{kept_by}
 
 -- a blob of this name and these bytes may be committed
@@ -246,10 +246,6 @@ committed s old new k name contents (Ok commits.Done) out did =
     ∙ ap (λ (o : Option Bytes). committing name o (ticket_of s old k)) did.1
 committed s old new k name contents (Ok commits.Exists) out did = added_ticket s old new k (CommitStep name) WasThere did.0 k ∙ changed_ticket s old k (λ t. noting t name) out
 committed s old new k name contents (Err e) out did = tt
-
-pub commit_from : (s : Start) (old mid new : List Moment) (k : ℕ) (step : Step) (name : BlobName) (contents : Option Bytes) (r : Result Commit StepRefusal) → mid ≡ old → CommitDid s mid new k step name contents r
-    → CommitDid s old new k step name contents r
-commit_from s old mid new k step name contents r e did = subst (λ (l : List Moment). CommitDid s l new k step name contents r) e did
 
 pub committed_ticket : (s : Start) (old mid new : List Moment) (k : ℕ) (name : BlobName) (contents : Option Bytes) (r : Result Commit StepRefusal) → mid ≡ old → CommitsSo s old k name contents
     → CommitDid s mid new k (CommitStep name) name contents r

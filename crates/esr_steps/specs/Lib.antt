@@ -1,4 +1,2 @@
-pub mod Asked
 pub mod Hands
-pub mod Given
 pub mod Leave

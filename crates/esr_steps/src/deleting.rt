@@ -19,16 +19,15 @@ ghost use Rattle.esr_desk.specs.Delete.Conditions.{CanPlan, CanSettleDelete, Can
 ghost use Rattle.esr_repo.specs.Next.{IsLive, GoesOn, Did};
 ghost use Rattle.esr_repo.specs.May.{MaySwap};
 
-use crate::renewing::{settled_record, with_ops};
-use crate::taking::info_copy;
+use crate::renewing::settled_record;
 use esr_depot::Depot;
 use esr_desk::{Answer, BlobNames, EntryRefusal, Planned, Prune, Step, StepRefusal};
 use esr_formats::write_root;
 use esr_meta::SnapInfo;
 use esr_names::{BlobName, Id, Ids};
 use esr_newroot::deleted;
-use esr_opening::SnapInfos;
-use esr_repo::{Renewed, Repo, Told};
+use esr_progress::{SnapInfos, info_copy};
+use esr_repo::{Renewed, Repo, Told, with_ops};
 use esr_results::{PrunedShard, PrunedShards};
 use esr_root::{RootData, RootSnap};
 use esr_seq::Seq;

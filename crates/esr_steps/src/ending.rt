@@ -1,21 +1,23 @@
 //! The steps by which a unit swaps the record, and ends.
 ghost use Rattle.std.specs.Prelude.{◌≡◌, ◌<◌, ◌^◌, Some, true, false, IfOk, OnOk, OnErr};
-ghost use Rattle.esr_core.specs.Entry.{RaiseStep, SettleStep, DoneStep, FinishStep, DroppedStep, RaisedTo, WasSettled, HasEnded};
+ghost use Rattle.esr_core.specs.Entry.{RaiseStep, SettleStep, DoneStep, FinishStep, DroppedStep, ReadStep, RestoredShard, RaisedTo, WasSettled, HasEnded};
 ghost use Rattle.esr_formats.specs.Roots.{root_of};
 ghost use Rattle.esr_results.specs.Results.{result_of};
 ghost use Rattle.esr_desk.specs.Start.{ticket_of};
+ghost use Rattle.esr_desk.specs.Own.{reader_of};
 ghost use Rattle.esr_desk.specs.Once.{IsFresh};
 ghost use Rattle.esr_desk.specs.Conditions.{CanRaise, IsUnpruned, CanSettle, CanEnd, CanFinish, CanDrop};
 ghost use Rattle.esr_desk.specs.Delete.Conditions.{CanEndCleanup};
+ghost use Rattle.esr_desk.specs.Restore.Conditions.{CanEndRestore};
 ghost use Rattle.esr_desk.specs.Taken.{LeftBy, HasRaised, IsSettled, HasEndedAs};
 ghost use Rattle.esr_desk.specs.declared.refusal.StepRefusal.{StepRefusal};
 ghost use Rattle.esr_repo.specs.Next.{Did};
 ghost use Rattle.esr_steps.specs.Leave.{CanLeave};
 
-use crate::renewing::{count, entry_refusal, raised, settled, without_op};
+use crate::renewing::{count, raised, settled, without_op};
 use esr_depot::Depot;
-use esr_desk::{Answer, EntryRefusal, Step, StepRefusal};
-use esr_repo::{Repo, Told};
+use esr_desk::{Answer, EntryRefusal, Read, Step, StepRefusal};
+use esr_repo::{Repo, Told, entry_refusal};
 use esr_results::ShardResult;
 use esr_root::RootData;
 use std::alloc::Global;
@@ -97,6 +99,30 @@ pub fn end_shard<D: Depot, K: Told>(
     let next = repo.next_id();
     let step = Step::Done { result: *outcome };
     repo.note(ticket, step, Answer::Ended, Some(progress), next)
+}
+
+/// A shard is restored, with so many files of so many bytes; its ticket ends.
+pub fn end_restore<D: Depot, K: Told>(
+    repo: &mut Repo<D, K>,
+    alloc: Global,
+    ticket: u64,
+    files: u64,
+    bytes: u64,
+) -> Result<(), StepRefusal>
+    requires may { CanEndRestore K.start (reader_of K.start repo.old ticket) files bytes }
+    ensures step { Did K.start repo.old repo.new ticket (ReadStep (RestoredShard files bytes)) (λ _. HasEnded) result }
+    ensures own { OnOk result (reader_of K.start repo.new ticket
+        ≡ record (reader_of K.start repo.old ticket) { out = false }) }
+    ensures kept { OnErr result (reader_of K.start repo.new ticket ≡ reader_of K.start repo.old ticket) }
+{
+    let read = Read::Restored { files, bytes };
+    repo.check(ticket, Step::Read { read })?;
+    repo.rules();
+    let ended = repo.plan().shard_read(alloc, ticket)?;
+    let next = repo.next_id();
+    let read = Read::Restored { files, bytes };
+    let step = Step::Read { read };
+    repo.note(ticket, step, Answer::Ended, Some(ended), next)
 }
 
 /// The op of the ticket leaves the list; the ticket ends.

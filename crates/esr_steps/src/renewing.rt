@@ -1,13 +1,10 @@
 //! What a repository keeps after the record swap of a ticket.
-ghost use Rattle.std.specs.Prelude.{◌≡◌, ◌<◌, ◌^◌, ◌≤ℤ◌, ℕ, ℤ, negsuc, suc, map, Some, IfOk};
-ghost use Rattle.esr_core.specs.World.{record_of, record_ops};
+ghost use Rattle.std.specs.Prelude.{◌≡◌, ◌<◌, ◌^◌, ◌≤ℤ◌, ℕ, negsuc, suc, Some, IfOk};
+ghost use Rattle.esr_core.specs.World.{record_of};
 ghost use Rattle.esr_core.specs.After.{raised};
 ghost use Rattle.esr_core.specs.Entry.{RaiseStep, SettleStep, DroppedStep, RaisedTo, WasSettled, HasEnded};
-ghost use Rattle.esr_core.specs.Entry as entry;
-ghost use Rattle.esr_record.specs.declared.steps.RecordRefusal.TheVariants as records;
 ghost use Rattle.esr_formats.specs.Roots.{root_of};
-ghost use Rattle.esr_formats.specs.Clusters.{count_of, cluster_of, op_of};
-ghost use Rattle.esr_desk.specs.Refusals.{refusal_of};
+ghost use Rattle.esr_formats.specs.Clusters.{count_of, cluster_of};
 ghost use Rattle.esr_desk.specs.Start.{world_of, ticket_of};
 ghost use Rattle.esr_desk.specs.Conditions.{CanRaise, IsUnpruned, CanSettle};
 ghost use Rattle.esr_repo.specs.Next.{IsLive};
@@ -15,14 +12,10 @@ ghost use Rattle.esr_repo.specs.May.{MaySwap, IsMadeInfo};
 ghost use Rattle.esr_steps.specs.Leave.{CanLeave};
 
 use esr_depot::Depot;
-use esr_desk::EntryRefusal;
 use esr_formats::write_info;
 use esr_meta::SnapInfo;
-use esr_names::Id;
-use esr_opening::SnapInfos;
-use esr_progress::Progress;
-use esr_record::{ClusterRecord, RecordRefusal};
-use esr_repo::{Renewed, Repo, Told};
+use esr_record::ClusterRecord;
+use esr_repo::{Renewed, Repo, Told, with_ops};
 use esr_root::RootData;
 use std::alloc::{AllocError, Global};
 
@@ -35,44 +28,6 @@ pub(crate) fn count(number: i64) -> u64
         return 0;
     }
     number as u64 + 1
-}
-
-/// The refusal of a record, as an entry tells it.
-pub(crate) fn entry_refusal(refusal: RecordRefusal) -> EntryRefusal
-    ensures stale { (own now : ℕ) → refusal ≡ records.StaleTerm own now → refusal_of result ≡ entry.StaleTerm own now }
-    ensures terms { (number : ℕ) → refusal ≡ records.TermsSpent number → refusal_of result ≡ entry.TermsSpent number }
-    ensures spent { (number : ℤ) → refusal ≡ records.GenerationsSpent number → refusal_of result ≡ entry.GenerationsSpent (count_of number) }
-{
-    match refusal {
-        RecordRefusal::StaleTerm { own, now } => EntryRefusal::StaleTerm { own, now },
-        RecordRefusal::GenerationsSpent { number } => EntryRefusal::GenerationsSpent { number },
-        RecordRefusal::TermsSpent { number } => EntryRefusal::TermsSpent { number },
-    }
-}
-
-/// What is kept with this record, into which the ops of the list go.
-pub(crate) fn with_ops(
-    alloc: Global,
-    mut cluster: ClusterRecord,
-    root: Option<RootData>,
-    left: Option<SnapInfos>,
-    info: Option<SnapInfo>,
-    progress: Progress,
-    next: Id,
-) -> Result<Renewed, AllocError>
-    ensures is { IfOk result (λ r. r ≡ record { cluster = r.cluster; root = root; left = left; info = info; progress = Some progress; next = next }) }
-    ensures ledger { IfOk result (λ r. (cluster_of r.cluster).ledger ≡ (cluster_of cluster).ledger) }
-    ensures ops { IfOk result (λ r. map op_of r.cluster.ops ≡ record_ops progress.ops progress.deletes) }
-{
-    cluster.ops = progress.record_ops(alloc)?;
-    Ok(Renewed {
-        cluster,
-        root,
-        left,
-        info,
-        progress: Some(progress),
-        next,
-    })
 }
 
 /// What is kept after a ticket raised a generation.

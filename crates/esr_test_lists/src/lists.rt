@@ -32,11 +32,8 @@ use esr_scenes::{Words, is_among, say};
 use esr_seq::Seq;
 use std::alloc::Global;
 
-/// The words that ask for an op, and those that a ticket reports by.
-const COMMANDS: &str = "snapshot clone delete restore cleanup";
-
-const REPORTS: &str =
-    "done raised failed delete-failed settled delete-settled ended dropped shard-read";
+/// The words that ask for an op.
+static COMMANDS: [&str; 5] = ["snapshot", "clone", "delete", "restore", "cleanup"];
 
 /// What a case has come to.
 #[derive(Drop)]
@@ -93,8 +90,16 @@ fn say_list_answer(alloc: Global, board: &mut Board, line: &str, said: &mut Stri
             board.skip_to(words.end(next)?)
         }
         "elect" => board.elect(),
-        _ if is_among(COMMANDS, what) => asked(alloc, board, line, said),
-        _ if is_among(REPORTS, what) => tell_ticket(alloc, board, what, &mut words),
+        _ if is_among(COMMANDS.as_slice(), what) => asked(alloc, board, line, said),
+        "done"
+        | "raised"
+        | "failed"
+        | "delete-failed"
+        | "settled"
+        | "delete-settled"
+        | "ended"
+        | "dropped"
+        | "shard-read" => tell_ticket(alloc, board, what, &mut words),
         _ => Ok(board.say(alloc, what, said)?),
     }
 }
@@ -136,12 +141,6 @@ impl Listing {
         Ok(())
     }
 
-    /// A container of which a call fails takes the place of the one that is there.
-    fn fail(&mut self, alloc: Global, words: &mut Words) -> Done {
-        self.depot = Some(failing(alloc, words)?);
-        Ok(())
-    }
-
     /// Changes the container, or says its record.
     fn change(&mut self, alloc: Global, what: &str, words: &mut Words, said: &mut String) -> Done {
         let Some(depot) = &mut self.depot else {
@@ -162,7 +161,10 @@ impl Listing {
         let what = words.word();
         match what {
             "open" => self.open(alloc, said),
-            "fails" => self.fail(alloc, &mut words),
+            "fails" => {
+                self.depot = Some(failing(alloc, &mut words)?);
+                Ok(())
+            }
             "put" | "record" => self.change(alloc, what, &mut words, said),
             _ => match &mut self.board {
                 Some(board) => say_list_answer(alloc, board, line, said),

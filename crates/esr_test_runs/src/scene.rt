@@ -7,15 +7,10 @@ use crate::meeting::Meeting;
 use crate::setting::{Job, Mishaps, calm};
 use crate::shown::Shown;
 use crate::text::{counted_blobs, front_of, line_behind, plain, push_line};
-use esr_scenes::{is_among, say, say_number};
+use esr_scenes::{say, say_number};
 use std::alloc::{AllocError, Global};
 use std::sync::Wait;
 use std::thread::Threads;
-
-/// The marks of lines that write to the script, and of those that are passed over.
-const WRITTEN: &str = "> | * +";
-
-const PASSED: &str = "# only row then";
 
 /// What a scene has come to.
 #[derive(Drop)]
@@ -424,8 +419,8 @@ impl Scene<'_> {
                 self.is_armed = true;
                 Ok(())
             }
-            _ if is_among(WRITTEN, mark) => self.write(mark, rest),
-            _ if is_among(PASSED, mark) => Ok(()),
+            ">" | "|" | "*" | "+" => self.write(mark, rest),
+            "#" | "only" | "row" | "then" => Ok(()),
             _ => Ok(self.compare(mark, rest, line)?),
         }
     }

@@ -2,7 +2,7 @@
 use crate::meeting::Meeting;
 use esr_depot::Depot;
 use esr_faulty::{Fault, Faulty, Kind, Turn};
-use esr_run::{Ended, run};
+use esr_run::{Ended, Host, run};
 use esr_scenes::{one, source_of};
 use esr_script::Words;
 use esr_seq::{Bytes, Seq, Text};
@@ -145,7 +145,11 @@ where
     let words = words_of(alloc, job.words)?;
     let mut lines = lines_of(alloc, job)?;
     let depot = container_of(alloc, depot, job)?;
-    Ok(run(
-        threads, alloc, &words, &mut lines, depot, sources, targets, job.gate, 0, out,
-    ))
+    let host = Host {
+        sources,
+        targets,
+        gate: job.gate,
+        moment: 0,
+    };
+    Ok(run(threads, alloc, &words, &mut lines, depot, &host, out))
 }

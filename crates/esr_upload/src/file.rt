@@ -13,10 +13,11 @@ ghost use Rattle.esr_upload.specs.Stored.{MayStore, IsToldBy, HasPrint, Stored};
 ghost use Rattle.esr_upload.specs.Trouble.{Shown};
 ghost use Rattle.esr_upload.specs.Worked.{Went};
 
+use crate::job::Job;
 use esr_depot::CallError;
 use esr_desk::{Desk, Named, NewBlob, StepRefusal, Why};
 use esr_hash::Hasher;
-use esr_names::{BlobName, ShardId};
+use esr_names::BlobName;
 use esr_parts::{CopyError, copy_part, part_plan};
 use esr_shardidx::{FileEntry, part_count, part_name};
 use esr_source::{Gate, Shard};
@@ -43,45 +44,60 @@ fn start_file<Q: Desk, S: Shard>(
     }
 }
 
-/// Stores the next `size` bytes of the file that was started as a blob, and hashes them. It answers whether the file had
-/// so many; where it hadn't, no blob is stored.
+/// A part of a file that is to be stored: the name of its blob, and its length in bytes.
+#[derive(Clone, Copy)]
+struct NewPart {
+    name: BlobName,
+    size: u64,
+}
+
+/// Stores the next bytes of the file that was started as this part, and hashes them. It answers whether the file had so many;
+/// where it hadn't, no blob is stored.
 fn put_part<Q: Desk, S: Shard, G: Gate>(
     alloc: Global,
     desk: &mut Q,
-    ticket: u64,
-    name: BlobName,
-    size: u64,
+    job: &Job<'_, G>,
+    part: NewPart,
     shard: &mut S,
     hasher: &mut Hasher,
-    gate: &G,
     buf: &mut [u8],
 ) -> Result<bool, Trouble<Q::Stage, Q::Fetch>>
-    requires mine { HasTaken (Q.calls desk.old) ticket }
-    requires may { CanStore Q.start (ticket_of Q.start (Q.seen desk.old) ticket) name }
-    requires bound { fed_count hasher.old + size < 2 ^ 61 }
+    requires mine { HasTaken (Q.calls desk.old) job.now.ticket }
+    requires may { CanStore Q.start (ticket_of Q.start (Q.seen desk.old) job.now.ticket) part.name }
+    requires bound { fed_count hasher.old + part.size < 2 ^ 61 }
     requires buffer { 0 < length buf.old }
-    requires tells { TellsAll Q.start (Q.seen desk.old) ticket }
+    requires tells { TellsAll Q.start (Q.seen desk.old) job.now.ticket }
     ensures kept { ReadOn (S.told shard.old) (S.told shard.new) }
     ensures steady { (S.told shard.old).is_sure ≡ true → S.faults shard.new ≡ S.faults shard.old }
     ensures buffer { length buf.new ≡ length buf.old }
-    ensures put { IfOk result (PutPart Q.start (S.told shard.old).left (S.told shard.new).left hasher.old hasher.new (ticket_of Q.start (Q.seen desk.old) ticket) (ticket_of Q.start (Q.seen desk.new) ticket) (name_of name) size) }
+    ensures put { IfOk result
+        (PutPart Q.start (S.told shard.old).left (S.told shard.new).left hasher.old hasher.new (ticket_of Q.start (Q.seen desk.old) job.now.ticket) (ticket_of Q.start (Q.seen desk.new) job.now.ticket) (name_of part.name) part.size) }
     ensures faults { S.faults shard.old ≤ S.faults shard.new }
-    ensures tells { IfOk result (λ full. full ≡ true → TellsAll Q.start (Q.seen desk.new) ticket) }
-    ensures trouble { IfErr result (Shown (evidence Q.Stage.faults Q.Fetch.faults Q.Shard.faults Q.Target.faults Q.Shard.told Q.Target.told) (S.faults shard.new) (S.told shard.old).files Q.start (Q.seen desk.new) ticket) }
-    ensures went { Went Q.start (Q.seen desk.old) (Q.seen desk.new) ticket }
+    ensures tells { IfOk result (λ full. full ≡ true → TellsAll Q.start (Q.seen desk.new) job.now.ticket) }
+    ensures trouble { IfErr result (Shown (evidence Q.Stage.faults Q.Fetch.faults Q.Shard.faults Q.Target.faults Q.Shard.told Q.Target.told) (S.faults shard.new) (S.told shard.old).files Q.start (Q.seen desk.new) job.now.ticket) }
+    ensures went { Went Q.start (Q.seen desk.old) (Q.seen desk.new) job.now.ticket }
     ensures calls { Q.calls desk.new ≡ Q.calls desk.old }
 {
     esr_core::refusals_are_of_their_steps();
+    let NewPart { name, size } = part;
     let room = size as usize;
-    let mut named = desk.begin(alloc, ticket, NewBlob { name, room })?;
-    match copy_part(shard, &mut named.stage, hasher, size, gate, ticket, buf) {
+    let mut named = desk.begin(alloc, job.ticket, NewBlob { name, room })?;
+    match copy_part(
+        shard,
+        &mut named.stage,
+        hasher,
+        size,
+        job.gate,
+        job.ticket,
+        buf,
+    ) {
         Ok(true) => {}
         Ok(false) => return Ok(false),
         Err(CopyError::Source) => return Err(Trouble::Own),
         Err(CopyError::Stage) => return Err(Trouble::Stage { stage: named.stage }),
     }
     let Named { name, stage } = named;
-    desk.commit(alloc, ticket, name, stage)?;
+    desk.commit(alloc, job.ticket, name, stage)?;
     Ok(true)
 }
 
@@ -90,37 +106,36 @@ fn put_part<Q: Desk, S: Shard, G: Gate>(
 fn put_parts<Q: Desk, S: Shard, G: Gate>(
     alloc: Global,
     desk: &mut Q,
-    ticket: u64,
-    at: ShardId,
+    job: &Job<'_, G>,
     entry: &FileEntry,
     shard: &mut S,
     hasher: &mut Hasher,
-    gate: &G,
     buf: &mut [u8],
 ) -> Result<(), Trouble<Q::Stage, Q::Fetch>>
-    requires mine { HasTaken (Q.calls desk.old) ticket }
-    requires may { MayStore (ticket_of Q.start (Q.seen desk.old) ticket) at.index.number at.number entry.now.name.number }
-    requires few { at.number < 1024 }
+    requires mine { HasTaken (Q.calls desk.old) job.now.ticket }
+    requires may { MayStore (ticket_of Q.start (Q.seen desk.old) job.now.ticket) job.now.at.index.number job.now.at.number entry.now.name.number }
+    requires few { job.now.at.number < 1024 }
     requires size { (1 ≤ entry.now.part_size) × (entry.now.part_size ≤ 2 ^ 30) }
-    requires numbered { AreNumbered Q.start (ticket_of Q.start (Q.seen desk.old) ticket) at entry.now }
+    requires numbered { AreNumbered Q.start (ticket_of Q.start (Q.seen desk.old) job.now.ticket) job.now.at entry.now }
     requires short { entry.now.print.len < 2 ^ 60 }
     requires fresh { HasFed hasher.old [] }
     requires buffer { 0 < length buf.old }
-    requires tells { TellsAll Q.start (Q.seen desk.old) ticket }
+    requires tells { TellsAll Q.start (Q.seen desk.old) job.now.ticket }
     ensures kept { ReadOn (S.told shard.old) (S.told shard.new) }
     ensures steady { (S.told shard.old).is_sure ≡ true → S.faults shard.new ≡ S.faults shard.old }
     ensures buffer { length buf.new ≡ length buf.old }
-    ensures put { OnOk result (PutParts Q.start (S.told shard.old).left (S.told shard.new).left hasher.new at entry.now (ticket_of Q.start (Q.seen desk.old) ticket) (ticket_of Q.start (Q.seen desk.new) ticket)) }
+    ensures put { OnOk result (PutParts Q.start (S.told shard.old).left (S.told shard.new).left hasher.new job.now.at entry.now (ticket_of Q.start (Q.seen desk.old) job.now.ticket) (ticket_of Q.start (Q.seen desk.new) job.now.ticket)) }
     ensures faults { S.faults shard.old ≤ S.faults shard.new }
-    ensures tells { OnOk result (PartsTold Q.start (Q.seen desk.new) ticket hasher.new entry.now.print.len) }
-    ensures trouble { IfErr result (Shown (evidence Q.Stage.faults Q.Fetch.faults Q.Shard.faults Q.Target.faults Q.Shard.told Q.Target.told) (S.faults shard.new) (S.told shard.old).files Q.start (Q.seen desk.new) ticket) }
-    ensures went { Went Q.start (Q.seen desk.old) (Q.seen desk.new) ticket }
+    ensures tells { OnOk result (PartsTold Q.start (Q.seen desk.new) job.now.ticket hasher.new entry.now.print.len) }
+    ensures trouble { IfErr result (Shown (evidence Q.Stage.faults Q.Fetch.faults Q.Shard.faults Q.Target.faults Q.Shard.told Q.Target.told) (S.faults shard.new) (S.told shard.old).files Q.start (Q.seen desk.new) job.now.ticket) }
+    ensures went { Went Q.start (Q.seen desk.old) (Q.seen desk.new) job.now.ticket }
     ensures calls { Q.calls desk.new ≡ Q.calls desk.old }
 {
     for number in 0..part_count(entry.print.len, entry.part_size) {
         let (_, size) = part_plan(entry.print.len, entry.part_size, number);
-        let name = part_name(at, entry, number);
-        if !put_part(alloc, desk, ticket, name, size, shard, hasher, gate, buf)? {
+        let name = part_name(job.at, entry, number);
+        let part = NewPart { name, size };
+        if !put_part(alloc, desk, job, part, shard, hasher, buf)? {
             return Ok(());
         }
     }
@@ -131,49 +146,37 @@ fn put_parts<Q: Desk, S: Shard, G: Gate>(
 pub fn store_file<Q: Desk, S: Shard, G: Gate>(
     alloc: Global,
     desk: &mut Q,
-    ticket: u64,
-    at: ShardId,
+    job: &Job<'_, G>,
     shard: &mut S,
     file: usize,
     entry: &FileEntry,
-    gate: &G,
     buf: &mut [u8],
 ) -> Result<(), Trouble<Q::Stage, Q::Fetch>>
-    requires mine { HasTaken (Q.calls desk.old) ticket }
-    requires may { MayStore (ticket_of Q.start (Q.seen desk.old) ticket) at.index.number at.number entry.now.name.number }
-    requires few { at.number < 1024 }
+    requires mine { HasTaken (Q.calls desk.old) job.now.ticket }
+    requires may { MayStore (ticket_of Q.start (Q.seen desk.old) job.now.ticket) job.now.at.index.number job.now.at.number entry.now.name.number }
+    requires few { job.now.at.number < 1024 }
     requires size { (1 ≤ entry.now.part_size) × (entry.now.part_size ≤ 2 ^ 30) }
     requires cut { entry.now.part_size ≡ Q.start.part_size }
-    requires told { IsToldBy Q.start (S.told shard.old).files at.number (ticket_of Q.start (Q.seen desk.old) ticket) }
+    requires told { IsToldBy Q.start (S.told shard.old).files job.now.at.number (ticket_of Q.start (Q.seen desk.old) job.now.ticket) }
     requires short { entry.now.print.len < 2 ^ 60 }
     requires listed { IsSomeAnd (S.told shard.old).listed (λ fs. file < length fs) }
     requires place { IfSome (S.told shard.old).files (λ fs. file < length fs) }
     requires print { HasPrint (bytes_at (S.told shard.old).files file) entry.now }
     requires buffer { 0 < length buf.old }
-    requires tells { TellsAll Q.start (Q.seen desk.old) ticket }
+    requires tells { TellsAll Q.start (Q.seen desk.old) job.now.ticket }
     ensures kept { ReadOn (S.told shard.old) (S.told shard.new) }
     ensures steady { (S.told shard.old).is_sure ≡ true → S.faults shard.new ≡ S.faults shard.old }
     ensures buffer { length buf.new ≡ length buf.old }
-    ensures stored { OnOk result (Stored Q.start (bytes_at (S.told shard.old).files file) at.index.number at.number entry.now (ticket_of Q.start (Q.seen desk.old) ticket) (ticket_of Q.start (Q.seen desk.new) ticket)) }
+    ensures stored { OnOk result (Stored Q.start (bytes_at (S.told shard.old).files file) job.now.at.index.number job.now.at.number entry.now (ticket_of Q.start (Q.seen desk.old) job.now.ticket) (ticket_of Q.start (Q.seen desk.new) job.now.ticket)) }
     ensures faults { S.faults shard.old ≤ S.faults shard.new }
-    ensures tells { OnOk result (TellsAll Q.start (Q.seen desk.new) ticket) }
-    ensures trouble { IfErr result (Shown (evidence Q.Stage.faults Q.Fetch.faults Q.Shard.faults Q.Target.faults Q.Shard.told Q.Target.told) (S.faults shard.new) (S.told shard.old).files Q.start (Q.seen desk.new) ticket) }
-    ensures went { Went Q.start (Q.seen desk.old) (Q.seen desk.new) ticket }
+    ensures tells { OnOk result (TellsAll Q.start (Q.seen desk.new) job.now.ticket) }
+    ensures trouble { IfErr result (Shown (evidence Q.Stage.faults Q.Fetch.faults Q.Shard.faults Q.Target.faults Q.Shard.told Q.Target.told) (S.faults shard.new) (S.told shard.old).files Q.start (Q.seen desk.new) job.now.ticket) }
+    ensures went { Went Q.start (Q.seen desk.old) (Q.seen desk.new) job.now.ticket }
     ensures calls { Q.calls desk.new ≡ Q.calls desk.old }
 {
     start_file::<Q, S>(alloc, shard, file)?;
     let mut hasher = Hasher::start();
-    put_parts(
-        alloc,
-        desk,
-        ticket,
-        at,
-        entry,
-        shard,
-        &mut hasher,
-        gate,
-        buf,
-    )?;
+    put_parts(alloc, desk, job, entry, shard, &mut hasher, buf)?;
     let first = entry.print;
     let second = hasher.end();
     if first != second {

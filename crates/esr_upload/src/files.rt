@@ -13,8 +13,9 @@ ghost use Rattle.esr_upload.specs.Trouble.{Shown};
 ghost use Rattle.esr_upload.specs.Worked.{Went};
 
 use crate::file::store_file;
+use crate::job::Job;
 use esr_desk::Desk;
-use esr_names::{Id, ShardId};
+use esr_names::Id;
 use esr_reuse::Planned;
 use esr_seq::Seq;
 use esr_shardidx::{FileEntries, FileEntry};
@@ -72,51 +73,55 @@ fn new_entry(
     })
 }
 
-/// Stores a file under the id, unless it is reused, and answers its entry.
+/// A file that is to be stored: its place in the list of its shard, and its id.
+#[derive(Clone, Copy)]
+struct NewFile {
+    place: usize,
+    name: Id,
+}
+
+/// Stores a file under its id, unless it is reused, and answers its entry.
 fn store_one<Q: Desk, S: Shard, G: Gate>(
     alloc: Global,
     desk: &mut Q,
-    ticket: u64,
-    at: ShardId,
+    job: &Job<'_, G>,
     shard: &mut S,
-    file: usize,
     plan: &Planned,
-    name: Id,
-    part_size: u64,
-    gate: &G,
+    file: NewFile,
     buf: &mut [u8],
 ) -> Result<FileEntry, Trouble<Q::Stage, Q::Fetch>>
-    requires mine { HasTaken (Q.calls desk.old) ticket }
-    requires work { IsAt (ticket_of Q.start (Q.seen desk.old) ticket) at.index.number at.number }
-    requires drew { is_new plan.now.reused ≡ 1 → Drew (ticket_of Q.start (Q.seen desk.old) ticket) name.number }
-    requires below { AreBelow (ticket_of Q.start (Q.seen desk.old) ticket) name.number }
-    requires few { at.number < 1024 }
-    requires size { (1 ≤ part_size) × (part_size ≤ 2 ^ 30) }
-    requires cut { part_size ≡ Q.start.part_size }
-    requires told { IsToldBy Q.start (S.told shard.old).files at.number (ticket_of Q.start (Q.seen desk.old) ticket) }
+    requires mine { HasTaken (Q.calls desk.old) job.now.ticket }
+    requires work { IsAt (ticket_of Q.start (Q.seen desk.old) job.now.ticket) job.now.at.index.number job.now.at.number }
+    requires drew { is_new plan.now.reused ≡ 1 → Drew (ticket_of Q.start (Q.seen desk.old) job.now.ticket) file.name.number }
+    requires below { AreBelow (ticket_of Q.start (Q.seen desk.old) job.now.ticket) file.name.number }
+    requires few { job.now.at.number < 1024 }
+    requires size { (1 ≤ job.now.part_size) × (job.now.part_size ≤ 2 ^ 30) }
+    requires cut { job.now.part_size ≡ Q.start.part_size }
+    requires told { IsToldBy Q.start (S.told shard.old).files job.now.at.number (ticket_of Q.start (Q.seen desk.old) job.now.ticket) }
     requires short { plan.now.print.len < 2 ^ 60 }
-    requires listed { IsSomeAnd (S.told shard.old).listed (λ fs. file < length fs) }
-    requires place { IfSome (S.told shard.old).files (λ fs. file < length fs) }
-    requires read { ReadOnce (bytes_at (S.told shard.old).files file) plan.now.print }
+    requires listed { IsSomeAnd (S.told shard.old).listed (λ fs. file.place < length fs) }
+    requires place { IfSome (S.told shard.old).files (λ fs. file.place < length fs) }
+    requires read { ReadOnce (bytes_at (S.told shard.old).files file.place) plan.now.print }
     requires buffer { 0 < length buf.old }
-    requires tells { TellsAll Q.start (Q.seen desk.old) ticket }
+    requires tells { TellsAll Q.start (Q.seen desk.old) job.now.ticket }
     ensures kept { ReadOn (S.told shard.old) (S.told shard.new) }
     ensures steady { (S.told shard.old).is_sure ≡ true → S.faults shard.new ≡ S.faults shard.old }
     ensures buffer { length buf.new ≡ length buf.old }
-    ensures entry { IfOk result (λ e. e ≡ entry_at part_size name.number plan.now plan.now.reused) }
-    ensures below { IfOk result (λ e. AreBelow (ticket_of Q.start (Q.seen desk.new) ticket) (name.number + is_new plan.now.reused)) }
-    ensures stored { IfOk result (λ e. StoredOne Q.start (bytes_at (S.told shard.old).files file) at.index.number at.number plan.now e (ticket_of Q.start (Q.seen desk.old) ticket) (ticket_of Q.start (Q.seen desk.new) ticket)) }
+    ensures entry { IfOk result (λ e. e ≡ entry_at job.now.part_size file.name.number plan.now plan.now.reused) }
+    ensures below { IfOk result (λ e. AreBelow (ticket_of Q.start (Q.seen desk.new) job.now.ticket) (file.name.number + is_new plan.now.reused)) }
+    ensures stored { IfOk result
+        (λ e. StoredOne Q.start (bytes_at (S.told shard.old).files file.place) job.now.at.index.number job.now.at.number plan.now e (ticket_of Q.start (Q.seen desk.old) job.now.ticket) (ticket_of Q.start (Q.seen desk.new) job.now.ticket)) }
     ensures faults { S.faults shard.old ≤ S.faults shard.new }
-    ensures tells { IfOk result (λ e. TellsAll Q.start (Q.seen desk.new) ticket) }
-    ensures trouble { IfErr result (Shown (evidence Q.Stage.faults Q.Fetch.faults Q.Shard.faults Q.Target.faults Q.Shard.told Q.Target.told) (S.faults shard.new) (S.told shard.old).files Q.start (Q.seen desk.new) ticket) }
-    ensures went { Went Q.start (Q.seen desk.old) (Q.seen desk.new) ticket }
+    ensures tells { IfOk result (λ e. TellsAll Q.start (Q.seen desk.new) job.now.ticket) }
+    ensures trouble { IfErr result (Shown (evidence Q.Stage.faults Q.Fetch.faults Q.Shard.faults Q.Target.faults Q.Shard.told Q.Target.told) (S.faults shard.new) (S.told shard.old).files Q.start (Q.seen desk.new) job.now.ticket) }
+    ensures went { Went Q.start (Q.seen desk.old) (Q.seen desk.new) job.now.ticket }
     ensures calls { Q.calls desk.new ≡ Q.calls desk.old }
 {
     match &plan.reused {
         Some(entry) => Ok(entry.try_clone(alloc)?),
         None => {
-            let entry = new_entry(alloc, plan, name, part_size)?;
-            store_file(alloc, desk, ticket, at, shard, file, &entry, gate, buf)?;
+            let entry = new_entry(alloc, plan, file.name, job.part_size)?;
+            store_file(alloc, desk, job, shard, file.place, &entry, buf)?;
             Ok(entry)
         }
     }
@@ -126,44 +131,44 @@ fn store_one<Q: Desk, S: Shard, G: Gate>(
 pub fn store_files<Q: Desk, S: Shard, G: Gate>(
     alloc: Global,
     desk: &mut Q,
-    ticket: u64,
-    at: ShardId,
+    job: &Job<'_, G>,
     shard: &mut S,
     plans: &[Planned],
     first: Id,
-    part_size: u64,
-    gate: &G,
     buf: &mut [u8],
 ) -> Result<FileEntries, Trouble<Q::Stage, Q::Fetch>>
-    requires mine { HasTaken (Q.calls desk.old) ticket }
-    requires work { IsAt (ticket_of Q.start (Q.seen desk.old) ticket) at.index.number at.number }
-    requires from { (ticket_of Q.start (Q.seen desk.old) ticket).first ≡ first.number }
-    requires drawn { (ticket_of Q.start (Q.seen desk.old) ticket).drawn ≡ new_count plans.now + 1 }
-    requires below { AreBelow (ticket_of Q.start (Q.seen desk.old) ticket) first.number }
+    requires mine { HasTaken (Q.calls desk.old) job.now.ticket }
+    requires work { IsAt (ticket_of Q.start (Q.seen desk.old) job.now.ticket) job.now.at.index.number job.now.at.number }
+    requires from { (ticket_of Q.start (Q.seen desk.old) job.now.ticket).first ≡ first.number }
+    requires drawn { (ticket_of Q.start (Q.seen desk.old) job.now.ticket).drawn ≡ new_count plans.now + 1 }
+    requires below { AreBelow (ticket_of Q.start (Q.seen desk.old) job.now.ticket) first.number }
     requires room { first.number + (new_count plans.now + 1) < 2 ^ 128 }
-    requires few { at.number < 1024 }
-    requires size { (1 ≤ part_size) × (part_size ≤ 2 ^ 30) }
-    requires cut { part_size ≡ Q.start.part_size }
-    requires told { IsToldBy Q.start (S.told shard.old).files at.number (ticket_of Q.start (Q.seen desk.old) ticket) }
+    requires few { job.now.at.number < 1024 }
+    requires size { (1 ≤ job.now.part_size) × (job.now.part_size ≤ 2 ^ 30) }
+    requires cut { job.now.part_size ≡ Q.start.part_size }
+    requires told { IsToldBy Q.start (S.told shard.old).files job.now.at.number (ticket_of Q.start (Q.seen desk.old) job.now.ticket) }
     requires reads { Reads (S.told shard.old).files (S.told shard.old).listed plans.now }
     requires buffer { 0 < length buf.old }
-    requires tells { TellsAll Q.start (Q.seen desk.old) ticket }
+    requires tells { TellsAll Q.start (Q.seen desk.old) job.now.ticket }
     ensures kept { ReadOn (S.told shard.old) (S.told shard.new) }
     ensures steady { (S.told shard.old).is_sure ≡ true → S.faults shard.new ≡ S.faults shard.old }
     ensures buffer { length buf.new ≡ length buf.old }
-    ensures below { IfOk result (λ es. AreBelow (ticket_of Q.start (Q.seen desk.new) ticket) (first.number + new_count plans.now)) }
-    ensures stored { IfOk result (λ es. StoredAll Q.start (S.told shard.old).files at.index.number at.number part_size first.number plans.now es (ticket_of Q.start (Q.seen desk.old) ticket) (ticket_of Q.start (Q.seen desk.new) ticket)) }
-    ensures tells { IfOk result (λ es. TellsAll Q.start (Q.seen desk.new) ticket) }
-    ensures trouble { IfErr result (Shown (evidence Q.Stage.faults Q.Fetch.faults Q.Shard.faults Q.Target.faults Q.Shard.told Q.Target.told) (S.faults shard.new) (S.told shard.old).files Q.start (Q.seen desk.new) ticket) }
-    ensures went { Went Q.start (Q.seen desk.old) (Q.seen desk.new) ticket }
+    ensures below { IfOk result (λ es. AreBelow (ticket_of Q.start (Q.seen desk.new) job.now.ticket) (first.number + new_count plans.now)) }
+    ensures stored { IfOk result (λ es.
+        StoredAll Q.start (S.told shard.old).files job.now.at.index.number job.now.at.number job.now.part_size first.number plans.now es (ticket_of Q.start (Q.seen desk.old) job.now.ticket) (ticket_of Q.start (Q.seen desk.new) job.now.ticket)) }
+    ensures tells { IfOk result (λ es. TellsAll Q.start (Q.seen desk.new) job.now.ticket) }
+    ensures trouble { IfErr result (Shown (evidence Q.Stage.faults Q.Fetch.faults Q.Shard.faults Q.Target.faults Q.Shard.told Q.Target.told) (S.faults shard.new) (S.told shard.old).files Q.start (Q.seen desk.new) job.now.ticket) }
+    ensures went { Went Q.start (Q.seen desk.old) (Q.seen desk.new) job.now.ticket }
     ensures calls { Q.calls desk.new ≡ Q.calls desk.old }
 {
     let mut entries = Seq::new(alloc);
     let mut next = first;
     for (file, plan) in plans.iter().enumerate() {
-        let entry = store_one(
-            alloc, desk, ticket, at, shard, file, plan, next, part_size, gate, buf,
-        )?;
+        let new_file = NewFile {
+            place: file,
+            name: next,
+        };
+        let entry = store_one(alloc, desk, job, shard, plan, new_file, buf)?;
         entries.push(entry)?;
         next.number += u128::from(is_new(plan));
     }

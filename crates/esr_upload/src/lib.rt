@@ -5,6 +5,7 @@ mod base;
 mod fault;
 mod file;
 mod files;
+mod job;
 mod publish;
 mod survey;
 mod unit;

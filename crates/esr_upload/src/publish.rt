@@ -27,11 +27,13 @@ ghost use Rattle.esr_upload.specs.Base.{is_from, IsBaseAhead};
 ghost use Rattle.esr_upload.specs.Trouble.{Shown};
 ghost use Rattle.esr_upload.specs.Worked.{Went};
 
+use crate::job::Job;
 use esr_desk::{Desk, Why};
 use esr_formats::{write_shard_index, write_shard_snap};
 use esr_names::{BlobName, Id, ShardId};
 use esr_results::ShardResult;
 use esr_shardidx::{FileEntries, FileEntry, ShardIndex, ShardSnap};
+use esr_source::Gate;
 use esr_unit::{Trouble, put};
 use std::alloc::Global;
 
@@ -182,45 +184,43 @@ fn ahead(at: ShardId, generation: Option<Id>, base: &ShardIndex, first: Id) -> W
     }
 }
 
-/// Makes the snapshot and the next index of the base and the entries, writes them, and ends the ticket. The base has this
-/// generation, if there is one, and the ids of the ticket begin at `first`.
-pub fn finish<Q: Desk>(
+/// Makes the snapshot and the next index of the base and the entries, writes them, and ends the ticket, whose ids begin at
+/// `first`.
+pub fn finish<Q: Desk, G: Gate>(
     alloc: Global,
     desk: &mut Q,
-    ticket: u64,
+    job: &Job<'_, G>,
     base: &ShardIndex,
     entries: FileEntries,
-    uuid: Id,
     outcome: &ShardResult,
-    generation: Option<Id>,
     first: Id,
 ) -> Result<(), Trouble<Q::Stage, Q::Fetch>>
-    requires mine { HasTaken (Q.calls desk.old) ticket }
-    requires work { IsAt (ticket_of Q.start (Q.seen desk.old) ticket) outcome.now.shard.index.number outcome.now.shard.number }
+    requires mine { HasTaken (Q.calls desk.old) job.now.ticket }
+    requires work { IsAt (ticket_of Q.start (Q.seen desk.old) job.now.ticket) outcome.now.shard.index.number outcome.now.shard.number }
     requires few { outcome.now.shard.number < 1024 }
-    requires uuid { (ticket_of Q.start (Q.seen desk.old) ticket).uuid ≡ uuid.number }
-    requires drew { Drew (ticket_of Q.start (Q.seen desk.old) ticket) outcome.now.generation.number }
-    requires files { AreBelow (ticket_of Q.start (Q.seen desk.old) ticket) outcome.now.generation.number }
-    requires ahead { are_snap_files [] entries ≡ false → IsBaseAhead Q.start (Q.seen desk.old) ticket outcome.now.shard generation base.now first.number }
-    requires ready { ReadsBack shard_snap_kind (shard_snap_of (record { files = entries; uuid = uuid })) → ReadsBack shard_index_kind (shard_index_of (with_snap_of base.now (record { files = entries; uuid = uuid })))
+    requires uuid { (ticket_of Q.start (Q.seen desk.old) job.now.ticket).uuid ≡ job.now.uuid.number }
+    requires drew { Drew (ticket_of Q.start (Q.seen desk.old) job.now.ticket) outcome.now.generation.number }
+    requires files { AreBelow (ticket_of Q.start (Q.seen desk.old) job.now.ticket) outcome.now.generation.number }
+    requires ahead { are_snap_files [] entries ≡ false → IsBaseAhead Q.start (Q.seen desk.old) job.now.ticket outcome.now.shard job.now.base base.now first.number }
+    requires ready { ReadsBack shard_snap_kind (shard_snap_of (record { files = entries; uuid = job.now.uuid })) → ReadsBack shard_index_kind (shard_index_of (with_snap_of base.now (record { files = entries; uuid = job.now.uuid })))
         → CanEnd Q.start
-        (after_writes Q.start (last_blobs outcome.now.shard outcome.now.generation (record { files = entries; uuid = uuid }) (with_snap_of base.now (record { files = entries; uuid = uuid })))
-        (ticket_of Q.start (Q.seen desk.old) ticket))
+        (after_writes Q.start (last_blobs outcome.now.shard outcome.now.generation (record { files = entries; uuid = job.now.uuid }) (with_snap_of base.now (record { files = entries; uuid = job.now.uuid })))
+        (ticket_of Q.start (Q.seen desk.old) job.now.ticket))
         (result_of outcome.now) }
-    requires tells { TellsAll Q.start (Q.seen desk.old) ticket }
-    ensures ok { OnOk result (HasDone Q.start (Q.seen desk.old) (Q.seen desk.new) ticket) }
-    ensures trouble { IfErr result (Shown (evidence Q.Stage.faults Q.Fetch.faults Q.Shard.faults Q.Target.faults Q.Shard.told Q.Target.told) 0 (Some []) Q.start (Q.seen desk.new) ticket) }
-    ensures went { IfErr result (λ e. Went Q.start (Q.seen desk.old) (Q.seen desk.new) ticket) }
-    ensures grew { GrewBy Q.start ticket (Q.seen desk.old) (Q.seen desk.new) }
+    requires tells { TellsAll Q.start (Q.seen desk.old) job.now.ticket }
+    ensures ok { OnOk result (HasDone Q.start (Q.seen desk.old) (Q.seen desk.new) job.now.ticket) }
+    ensures trouble { IfErr result (Shown (evidence Q.Stage.faults Q.Fetch.faults Q.Shard.faults Q.Target.faults Q.Shard.told Q.Target.told) 0 (Some []) Q.start (Q.seen desk.new) job.now.ticket) }
+    ensures went { IfErr result (λ e. Went Q.start (Q.seen desk.old) (Q.seen desk.new) job.now.ticket) }
+    ensures grew { GrewBy Q.start job.now.ticket (Q.seen desk.old) (Q.seen desk.new) }
     ensures calls { Q.calls desk.new ≡ Q.calls desk.old }
 {
-    match ShardSnap::new(entries, uuid) {
+    match ShardSnap::new(entries, job.uuid) {
         Some(snap) => {
             let index = base.with_snap(alloc, &snap)?;
-            end_shard(alloc, desk, ticket, &snap, &index, outcome)
+            end_shard(alloc, desk, job.ticket, &snap, &index, outcome)
         }
         None => Err(Trouble::Found {
-            why: ahead(outcome.shard, generation, base, first),
+            why: ahead(outcome.shard, job.base, base, first),
         }),
     }
 }

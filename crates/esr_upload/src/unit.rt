@@ -25,6 +25,7 @@ ghost use Rattle.esr_upload.specs.Worked.{Went};
 use crate::base::read_base;
 use crate::fault::with_shard;
 use crate::files::{count_new, store_files, sum_of};
+use crate::job::Job;
 use crate::publish::finish;
 use crate::survey::survey;
 use esr_depot::CallError;
@@ -99,16 +100,6 @@ fn plan_files<Q: Desk, S: Shard>(
     }
 }
 
-/// What a shard's unit is of: its ticket, the shard and the snapshot, the base on which it builds, and the length of a part.
-#[derive(Clone, Copy)]
-struct Job {
-    ticket: u64,
-    at: ShardId,
-    uuid: Id,
-    base: Option<Id>,
-    part_size: u64,
-}
-
 /// What is to be stored: the index of the base, what each file reuses of it, and the first of the ids that were drawn.
 #[derive(Clone, Copy)]
 struct Draft<'a> {
@@ -121,42 +112,30 @@ struct Draft<'a> {
 fn store<Q: Desk, S: Shard, G: Gate>(
     alloc: Global,
     desk: &mut Q,
-    job: Job,
+    job: &Job<'_, G>,
     draft: Draft<'_>,
     shard: &mut S,
-    gate: &G,
     buf: &mut [u8],
 ) -> Result<(), Trouble<Q::Stage, Q::Fetch>>
-    requires mine { HasTaken (Q.calls desk.old) job.ticket }
-    requires drawn { HasDrawn Q.start (S.told shard.old).files (S.told shard.old).listed job.at.index.number job.at.number job.uuid draft.base.now draft.plans.now draft.first.number (ticket_of Q.start (Q.seen desk.old) job.ticket) }
-    requires base { (ticket_of Q.start (Q.seen desk.old) job.ticket).base ≡ option_map number_of job.base }
-    requires fetched { HasFetched (Q.seen desk.old) job.ticket job.at.index.number job.at.number job.base }
+    requires mine { HasTaken (Q.calls desk.old) job.now.ticket }
+    requires drawn { HasDrawn Q.start (S.told shard.old).files (S.told shard.old).listed job.now.at.index.number job.now.at.number job.now.uuid draft.base.now draft.plans.now draft.first.number (ticket_of Q.start (Q.seen desk.old) job.now.ticket) }
+    requires base { (ticket_of Q.start (Q.seen desk.old) job.now.ticket).base ≡ option_map number_of job.now.base }
+    requires fetched { HasFetched (Q.seen desk.old) job.now.ticket job.now.at.index.number job.now.at.number job.now.base }
     requires room { draft.first.number + (new_count draft.plans.now + 1) < 2 ^ 128 }
-    requires few { job.at.number < 1024 }
-    requires size { job.part_size ≡ Q.start.part_size }
-    requires sized { (1 ≤ job.part_size) × (job.part_size ≤ 2 ^ 30) }
+    requires few { job.now.at.number < 1024 }
+    requires size { job.now.part_size ≡ Q.start.part_size }
+    requires sized { (1 ≤ job.now.part_size) × (job.now.part_size ≤ 2 ^ 30) }
     requires buffer { 0 < length buf.old }
-    requires tells { TellsAll Q.start (Q.seen desk.old) job.ticket }
-    ensures ok { OnOk result (HasDone Q.start (Q.seen desk.old) (Q.seen desk.new) job.ticket) }
-    ensures trouble { IfErr result (Shown (evidence Q.Stage.faults Q.Fetch.faults Q.Shard.faults Q.Target.faults Q.Shard.told Q.Target.told) (S.faults shard.new) (S.told shard.old).files Q.start (Q.seen desk.new) job.ticket) }
+    requires tells { TellsAll Q.start (Q.seen desk.old) job.now.ticket }
+    ensures ok { OnOk result (HasDone Q.start (Q.seen desk.old) (Q.seen desk.new) job.now.ticket) }
+    ensures trouble { IfErr result (Shown (evidence Q.Stage.faults Q.Fetch.faults Q.Shard.faults Q.Target.faults Q.Shard.told Q.Target.told) (S.faults shard.new) (S.told shard.old).files Q.start (Q.seen desk.new) job.now.ticket) }
     ensures kept { ReadOn (S.told shard.old) (S.told shard.new) }
     ensures steady { (S.told shard.old).is_sure ≡ true → S.faults shard.new ≡ S.faults shard.old }
-    ensures went { IfErr result (λ e. Went Q.start (Q.seen desk.old) (Q.seen desk.new) job.ticket) }
-    ensures grew { GrewBy Q.start job.ticket (Q.seen desk.old) (Q.seen desk.new) }
+    ensures went { IfErr result (λ e. Went Q.start (Q.seen desk.old) (Q.seen desk.new) job.now.ticket) }
+    ensures grew { GrewBy Q.start job.now.ticket (Q.seen desk.old) (Q.seen desk.new) }
     ensures calls { Q.calls desk.new ≡ Q.calls desk.old }
 {
-    let entries = store_files(
-        alloc,
-        desk,
-        job.ticket,
-        job.at,
-        shard,
-        draft.plans,
-        draft.first,
-        job.part_size,
-        gate,
-        buf,
-    )?;
+    let entries = store_files(alloc, desk, job, shard, draft.plans, draft.first, buf)?;
     let outcome = ShardResult {
         shard: job.at,
         generation: Id {
@@ -165,39 +144,28 @@ fn store<Q: Desk, S: Shard, G: Gate>(
         files: draft.plans.len() as u64,
         bytes: sum_of(draft.plans),
     };
-    finish(
-        alloc,
-        desk,
-        job.ticket,
-        draft.base,
-        entries,
-        job.uuid,
-        &outcome,
-        job.base,
-        draft.first,
-    )
+    finish(alloc, desk, job, draft.base, entries, &outcome, draft.first)
 }
 
 /// What the unit does until its ticket ends as done, or a trouble.
 fn work<Q: Desk, S: Shard, G: Gate>(
     alloc: Global,
     desk: &mut Q,
-    job: Job,
+    job: &Job<'_, G>,
     shard: &mut S,
-    gate: &G,
 ) -> Result<(), Trouble<Q::Stage, Q::Fetch>>
-    requires mine { HasTaken (Q.calls desk.old) job.ticket }
-    requires unit { IsUnit Q.start (S.told shard.old).files (S.told shard.old).is_there job.at.index.number job.at.number job.uuid.number (option_map number_of job.base) (ticket_of Q.start (Q.seen desk.old) job.ticket) }
-    requires few { job.at.number < 1024 }
-    requires size { job.part_size ≡ Q.start.part_size }
-    requires sized { (1 ≤ job.part_size) × (job.part_size ≤ 2 ^ 30) }
-    requires new { made_of Q.start (Q.seen desk.old) job.ticket ≡ [] }
-    ensures ok { OnOk result (HasDone Q.start (Q.seen desk.old) (Q.seen desk.new) job.ticket) }
-    ensures trouble { IfErr result (Shown (evidence Q.Stage.faults Q.Fetch.faults Q.Shard.faults Q.Target.faults Q.Shard.told Q.Target.told) (S.faults shard.new) (S.told shard.old).files Q.start (Q.seen desk.new) job.ticket) }
+    requires mine { HasTaken (Q.calls desk.old) job.now.ticket }
+    requires unit { IsUnit Q.start (S.told shard.old).files (S.told shard.old).is_there job.now.at.index.number job.now.at.number job.now.uuid.number (option_map number_of job.now.base) (ticket_of Q.start (Q.seen desk.old) job.now.ticket) }
+    requires few { job.now.at.number < 1024 }
+    requires size { job.now.part_size ≡ Q.start.part_size }
+    requires sized { (1 ≤ job.now.part_size) × (job.now.part_size ≤ 2 ^ 30) }
+    requires new { made_of Q.start (Q.seen desk.old) job.now.ticket ≡ [] }
+    ensures ok { OnOk result (HasDone Q.start (Q.seen desk.old) (Q.seen desk.new) job.now.ticket) }
+    ensures trouble { IfErr result (Shown (evidence Q.Stage.faults Q.Fetch.faults Q.Shard.faults Q.Target.faults Q.Shard.told Q.Target.told) (S.faults shard.new) (S.told shard.old).files Q.start (Q.seen desk.new) job.now.ticket) }
     ensures same { SameShard (S.told shard.old) (S.told shard.new) }
     ensures steady { (S.told shard.old).is_sure ≡ true → S.faults shard.new ≡ S.faults shard.old }
-    ensures went { IfErr result (λ e. Went Q.start (Q.seen desk.old) (Q.seen desk.new) job.ticket) }
-    ensures grew { GrewBy Q.start job.ticket (Q.seen desk.old) (Q.seen desk.new) }
+    ensures went { IfErr result (λ e. Went Q.start (Q.seen desk.old) (Q.seen desk.new) job.now.ticket) }
+    ensures grew { GrewBy Q.start job.now.ticket (Q.seen desk.old) (Q.seen desk.new) }
     ensures calls { Q.calls desk.new ≡ Q.calls desk.old }
 {
     esr_core::refusals_are_of_their_steps();
@@ -210,7 +178,7 @@ fn work<Q: Desk, S: Shard, G: Gate>(
         plans: plans.as_slice(),
         first,
     };
-    store(alloc, desk, job, draft, shard, gate, &mut buf)
+    store(alloc, desk, job, draft, shard, &mut buf)
 }
 
 /// Stores the files of a shard that its base doesn't have, the snapshot of the shard and its next index, and ends the ticket.
@@ -256,8 +224,9 @@ pub fn run_unit<Q: Desk<Shard = S::Shard>, S: Sources, G: Gate>(
         uuid: *uuid,
         base: unit.ready.copy.base,
         part_size,
+        gate,
     };
-    match work(alloc, desk, job, &mut shard, gate) {
+    match work(alloc, desk, &job, &mut shard) {
         Ok(()) => Ok(()),
         Err(trouble) => Err(give_up(
             alloc,

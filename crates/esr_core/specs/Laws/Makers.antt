@@ -78,7 +78,7 @@ module _ (f : Formats) (w : World) where
   makes size who step reply image (allowed.Verifying read rep im h) = verifies read rep im h
   makes size who step reply image (allowed.Reading k read rep im h same) = reads k read rep im h
   makes size who step reply image (allowed.Pruning k prune rep im h) = prunes k prune rep im h
-  makes size who step reply image (allowed.Cleaning c d x im recorded there clean same) = ClientStep refl tt
+  makes size who step reply image (allowed.Cleaning c d x im recorded untaken there clean same) = ClientStep refl tt
   makes size who step reply image (allowed.Used name indices time uuid im clear is same) = ClientStep refl tt
   makes size who step reply image (allowed.Full name indices time im clear unused full same) = ClientStep refl tt
   makes size who step reply image (allowed.AskSpent name indices time im clear unused room spent same) = ClientStep refl tt

@@ -31,12 +31,6 @@ check_file-requires-clause-shard g c κs within =
     shard_on g.Q.Desk.start (g.Q.Desk.seen c.args.desk.now) (g.Q.Desk.seen c.loop-entry.desk) (Any (FileOf c.args.shard.at.index.number c.args.shard.at.number) (map entry_of (take c.loop-entry.entry-index c.files-entry-items.result.now)))
     (root_of c.args.shard.root.now) (map info_of_code c.args.shard.infos.now) c.args.shard.at.index.number c.args.shard.at.number c.args.shard.generation.number c.loop-entry.invariant.went c.requires.shard
 
-pub check_file-requires-clause-held : goal.check_file-requires-clause-held
-check_file-requires-clause-held g c κs within =
-    let s = g.Q.Desk.start in
-    held_more s (caller_of s (g.Q.Desk.seen c.args.desk.now)) (caller_of s (g.Q.Desk.seen c.loop-entry.desk)) c.loop-entry.invariant.went.grown
-    c.args.shard.at.index.number c.args.shard.at.number c.args.shard.generation.number (shard_index_of c.args.held.now) c.requires.held
-
 pub check_file-requires-clause-entry : goal.check_file-requires-clause-entry
 check_file-requires-clause-entry g c κs within =
     let here = at_same c.files-entry-items.result.now c.args.held.now.files c.loop-entry.entry-index c.entry-item.result c.files-entry-items.ensures.files c.loop-entry-test.true c.entry-item.is in
@@ -44,8 +38,15 @@ check_file-requires-clause-entry g c κs within =
 
 pub check_file-requires-clause-listed : goal.check_file-requires-clause-listed
 check_file-requires-clause-listed g c κs within =
+    let s = g.Q.Desk.start in
     let own = entry_of c.entry-item.result in
-    subst (λ (es : List CodeEntry). Has (map entry_of es) own) c.files-entry-items.ensures.files (has_at entry_of c.files-entry-items.result.now c.loop-entry.entry-index c.entry-item.result c.loop-entry-test.true c.entry-item.is)
+    record {
+      held = shard_index_of c.args.held.now;
+      read = held_more s (caller_of s (g.Q.Desk.seen c.args.desk.now)) (caller_of s (g.Q.Desk.seen c.loop-entry.desk)) c.loop-entry.invariant.went.grown
+          c.args.shard.at.index.number c.args.shard.at.number c.args.shard.generation.number (shard_index_of c.args.held.now) c.requires.held;
+      listed = subst (λ (es : List CodeEntry). Has (map entry_of es) own) c.files-entry-items.ensures.files
+          (has_at entry_of c.files-entry-items.result.now c.loop-entry.entry-index c.entry-item.result c.loop-entry-test.true c.entry-item.is);
+    }
 
 pub check_file-requires-clause-new : goal.check_file-requires-clause-new
 check_file-requires-clause-new g c κs within =

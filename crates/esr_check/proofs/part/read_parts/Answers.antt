@@ -3,7 +3,7 @@ use Rattle.esr_names.specs.declared.blob.BlobName.{BlobName as CodeName}
 use Rattle.esr_names.specs.Layout.{IsName}
 use Rattle.esr_formats.specs.Names.{name_of}
 use Rattle.esr_formats.specs.Roots.{root_of}
-use Rattle.esr_formats.specs.Shards.{shard_index_of, entry_of}
+use Rattle.esr_formats.specs.Shards.{entry_of}
 use Rattle.esr_shardidx.specs.Parts.{part_count}
 use Rattle.esr_hash.specs.Fed.{fed_count}
 use Rattle.esr_desk.specs.Own.{caller_of}
@@ -50,15 +50,15 @@ read_part-requires-clause-may g c κs within =
     let now = g.Q.Desk.seen c.loop-number.desk in
     let went = c.loop-number.invariant.went in
     let root = root_of c.args.shard.root.now in
-    let held = shard_index_of c.args.held.now in
+    let own = c.requires.listed in
     let test : number < c.part_count-number-end.result = c.loop-number-test.true in
     let less : number < part_count e.print.len e.part_size = omega (arith, test, c.part_count-number-end.ensures.count) in
     let new =
     below_new s old now (PartOf at e) number (λ k name lower one two. part_apart at e k number name less lower one two)
     (some_new (caller_of s old) (IsOfFile at.index.number at.number e.name.number) (PartOf at e number) (λ name own. part_in at e number name own) c.requires.new) went in
     subst (λ (n : CodeName). CanCheck s now (name_of n)) (sym c.part_name-name.ensures)
-    (can_part s now c.loop-number.count root at c.args.shard.generation.number held e number c.loop-number.invariant.so_far (safe_on s old now (Below (PartOf at e) number) root went c.requires.shard.safe) c.requires.shard.there
-    (held_more s (caller_of s old) (caller_of s now) went.grown at.index.number at.number c.args.shard.generation.number held c.requires.held) c.requires.listed c.requires.entry.least less new)
+    (can_part s now c.loop-number.count root at c.args.shard.generation.number own.held e number c.loop-number.invariant.so_far (safe_on s old now (Below (PartOf at e) number) root went c.requires.shard.safe) c.requires.shard.there
+    (held_more s (caller_of s old) (caller_of s now) went.grown at.index.number at.number c.args.shard.generation.number own.held own.read) own.listed c.requires.entry.least less new)
 
 pub read_part-requires-clause-bound : goal.read_part-requires-clause-bound
 read_part-requires-clause-bound g c κs within =

@@ -11,10 +11,10 @@ use Rattle.esr_clone.proofs.Copying.{ready, drew_first}
 use Rattle.esr_clone.proofs.copy.copy.Goals as goal
 
 pub returns-in_err-index-clause-went : goal.returns-in_err-index-clause-went
-returns-in_err-index-clause-went g c = if_err c.from_residual.result (went_none g.Q.Desk.start (g.Q.Desk.seen c.args.desk.now) c.args.ticket)
+returns-in_err-index-clause-went g c = if_err c.from_residual.result (went_none g.Q.Desk.start (g.Q.Desk.seen c.args.desk.now) c.args.job.ticket)
 
 pub returns-in_err-index-clause-grew : goal.returns-in_err-index-clause-grew
-returns-in_err-index-clause-grew g c = grew_by_none g.Q.Desk.start c.args.ticket (g.Q.Desk.seen c.args.desk.now)
+returns-in_err-index-clause-grew g c = grew_by_none g.Q.Desk.start c.args.job.ticket (g.Q.Desk.seen c.args.desk.now)
 
 pub end_shard-requires-clause-work : goal.end_shard-requires-clause-work
 end_shard-requires-clause-work g c κs within = c.requires.read.at
@@ -25,14 +25,14 @@ end_shard-requires-clause-uuid g c κs within = c.requires.read.uuid_is ∙ ap (
 pub end_shard-requires-clause-drew : goal.end_shard-requires-clause-drew
 end_shard-requires-clause-drew g c κs within =
     let s = g.Q.Desk.start in
-    drew_first s c.args.at c.args.uuid c.args.base.now c.args.snap c.args.first (ticket_of s (g.Q.Desk.seen c.args.desk.now) c.args.ticket) c.requires.read
+    drew_first s c.args.job.at c.args.job.uuid c.args.base.now c.args.snap c.args.first (ticket_of s (g.Q.Desk.seen c.args.desk.now) c.args.job.ticket) c.requires.read
 
 pub end_shard-requires-clause-files : goal.end_shard-requires-clause-files
-end_shard-requires-clause-files g c κs within = none_below (ticket_of g.Q.Desk.start (g.Q.Desk.seen c.args.desk.now) c.args.ticket) c.args.first.number c.requires.read.unnoted
+end_shard-requires-clause-files g c κs within = none_below (ticket_of g.Q.Desk.start (g.Q.Desk.seen c.args.desk.now) c.args.job.ticket) c.args.first.number c.requires.read.unnoted
 
 pub end_shard-requires-clause-ready : goal.end_shard-requires-clause-ready
 end_shard-requires-clause-ready g c κs within =
     let s = g.Q.Desk.start in
-    ready s c.args.at c.args.uuid c.args.base.now c.args.snap c.args.first (ticket_of s (g.Q.Desk.seen c.args.desk.now) c.args.ticket) c.requires.read
+    ready s c.args.job.at c.args.job.uuid c.args.base.now c.args.snap c.args.first (ticket_of s (g.Q.Desk.seen c.args.desk.now) c.args.job.ticket) c.requires.read
     c.under-own.result c.in_ok-index.index (length c.files-files.result.now) c.sum_of.result c.under-own.ensures c.in_ok-index.ensures
     (ap (λ (es : List CodeEntry). length es) c.files-files.ensures.files) (c.sum_of.ensures ∙ ap sum_entries c.files-files.ensures.files)

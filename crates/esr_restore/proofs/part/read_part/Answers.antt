@@ -23,31 +23,31 @@ pub returns-in-Ok-Whole-clause-read : goal.returns-in-Ok-Whole-clause-read
 returns-in-Ok-Whole-clause-read g c =
     let s = g.Q.Desk.start in
     let who = c.args.ticket in
-    part_read s (reader_of s (g.Q.Desk.seen c.args.desk.now) who) (reader_of s (g.Q.Desk.seen c.fetch.new.desk) who) (name_of c.args.name)
+    part_read s (reader_of s (g.Q.Desk.seen c.args.desk.now) who) (reader_of s (g.Q.Desk.seen c.fetch.new.desk) who) (name_of c.args.part.name)
     (g.Q.Fetch.Fetch.left c.in_ok-blob.blob) (g.Q.Fetch.Fetch.left c.read_back.new.fetch) (g.Q.Fetch.Fetch.is_sure c.in_ok-blob.blob)
-    c.args.hasher.now c.read_back.new.hasher (g.Q.Target.Target.told c.args.target.now).begun (g.Q.Target.Target.told c.read_back.new.target).begun c.args.size Whole c.in_ok-blob.ensures.came
+    c.args.hasher.now c.read_back.new.hasher (g.Q.Target.Target.told c.args.target.now).begun (g.Q.Target.Target.told c.read_back.new.target).begun c.args.part.size Whole c.in_ok-blob.ensures.came
     (subst (λ (x : Extent). ReadBack (g.Q.Fetch.Fetch.left c.in_ok-blob.blob) (g.Q.Fetch.Fetch.left c.read_back.new.fetch) c.args.hasher.now c.read_back.new.hasher
-    (g.Q.Target.Target.told c.args.target.now).begun (g.Q.Target.Target.told c.read_back.new.target).begun c.args.size x) c.in-Ok-Whole.field-0-is c.in-Ok-Whole.ensures.back)
+    (g.Q.Target.Target.told c.args.target.now).begun (g.Q.Target.Target.told c.read_back.new.target).begun c.args.part.size x) c.in-Ok-Whole.field-0-is c.in-Ok-Whole.ensures.back)
 
 pub returns-in-Ok-Short-clause-read : goal.returns-in-Ok-Short-clause-read
 returns-in-Ok-Short-clause-read g c =
     let s = g.Q.Desk.start in
     let who = c.args.ticket in
-    part_read s (reader_of s (g.Q.Desk.seen c.args.desk.now) who) (reader_of s (g.Q.Desk.seen c.fetch.new.desk) who) (name_of c.args.name)
+    part_read s (reader_of s (g.Q.Desk.seen c.args.desk.now) who) (reader_of s (g.Q.Desk.seen c.fetch.new.desk) who) (name_of c.args.part.name)
     (g.Q.Fetch.Fetch.left c.in_ok-blob.blob) (g.Q.Fetch.Fetch.left c.read_back.new.fetch) (g.Q.Fetch.Fetch.is_sure c.in_ok-blob.blob)
-    c.args.hasher.now c.read_back.new.hasher (g.Q.Target.Target.told c.args.target.now).begun (g.Q.Target.Target.told c.read_back.new.target).begun c.args.size Short c.in_ok-blob.ensures.came
+    c.args.hasher.now c.read_back.new.hasher (g.Q.Target.Target.told c.args.target.now).begun (g.Q.Target.Target.told c.read_back.new.target).begun c.args.part.size Short c.in_ok-blob.ensures.came
     (subst (λ (x : Extent). ReadBack (g.Q.Fetch.Fetch.left c.in_ok-blob.blob) (g.Q.Fetch.Fetch.left c.read_back.new.fetch) c.args.hasher.now c.read_back.new.hasher
-    (g.Q.Target.Target.told c.args.target.now).begun (g.Q.Target.Target.told c.read_back.new.target).begun c.args.size x) c.in-Ok-Short.field-0-is c.in-Ok-Short.ensures.back)
+    (g.Q.Target.Target.told c.args.target.now).begun (g.Q.Target.Target.told c.read_back.new.target).begun c.args.part.size x) c.in-Ok-Short.field-0-is c.in-Ok-Short.ensures.back)
 
 pub returns-in-Ok-Long-clause-read : goal.returns-in-Ok-Long-clause-read
 returns-in-Ok-Long-clause-read g c =
     let s = g.Q.Desk.start in
     let who = c.args.ticket in
-    part_read s (reader_of s (g.Q.Desk.seen c.args.desk.now) who) (reader_of s (g.Q.Desk.seen c.fetch.new.desk) who) (name_of c.args.name)
+    part_read s (reader_of s (g.Q.Desk.seen c.args.desk.now) who) (reader_of s (g.Q.Desk.seen c.fetch.new.desk) who) (name_of c.args.part.name)
     (g.Q.Fetch.Fetch.left c.in_ok-blob.blob) (g.Q.Fetch.Fetch.left c.read_back.new.fetch) (g.Q.Fetch.Fetch.is_sure c.in_ok-blob.blob)
-    c.args.hasher.now c.read_back.new.hasher (g.Q.Target.Target.told c.args.target.now).begun (g.Q.Target.Target.told c.read_back.new.target).begun c.args.size Long c.in_ok-blob.ensures.came
+    c.args.hasher.now c.read_back.new.hasher (g.Q.Target.Target.told c.args.target.now).begun (g.Q.Target.Target.told c.read_back.new.target).begun c.args.part.size Long c.in_ok-blob.ensures.came
     (subst (λ (x : Extent). ReadBack (g.Q.Fetch.Fetch.left c.in_ok-blob.blob) (g.Q.Fetch.Fetch.left c.read_back.new.fetch) c.args.hasher.now c.read_back.new.hasher
-    (g.Q.Target.Target.told c.args.target.now).begun (g.Q.Target.Target.told c.read_back.new.target).begun c.args.size x) c.in-Ok-Long.field-0-is c.in-Ok-Long.ensures.back)
+    (g.Q.Target.Target.told c.args.target.now).begun (g.Q.Target.Target.told c.read_back.new.target).begun c.args.part.size x) c.in-Ok-Long.field-0-is c.in-Ok-Long.ensures.back)
 
 pub returns-in-Ok-Whole-clause-steady : goal.returns-in-Ok-Whole-clause-steady
 returns-in-Ok-Whole-clause-steady g c = c.in-Ok-Whole.ensures.steady

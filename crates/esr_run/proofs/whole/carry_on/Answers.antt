@@ -11,9 +11,10 @@ use Rattle.esr_run.proofs.whole.carry_on.Goals as goal
 
 pub returns-clause-done : goal.returns-clause-done
 returns-clause-done g c =
-    subst (λ (lines : List ScriptLine). OnOk c.carry-desk.result.1 (AreDone g.K.Told.start c.args.moment lines [] c.into_parts-repo.result.0 ⊎ HasFallen g.K.Told.start c.args.moment lines [] c.into_parts-repo.result.0)) c.as_slice-lines.ensures
-    (done_fallen c.refusals.ensures g.K.Told.start c.args.moment c.as_slice-lines.result.now c.new-desk.result c.carry-desk.result.0 c.into_parts-repo.result.0 c.carry-desk.result.1
-    (done_on g.K.Told.start c.args.moment c.as_slice-lines.result.now c.new-desk.result c.carry-desk.result.0 c.into_parts-repo.result.0
+    subst (λ (lines : List ScriptLine). OnOk c.carry-desk.result.1 (AreDone g.K.Told.start c.args.host.now.moment lines [] c.into_parts-repo.result.0 ⊎ HasFallen g.K.Told.start c.args.host.now.moment lines [] c.into_parts-repo.result.0))
+    c.as_slice-lines.ensures
+    (done_fallen c.refusals.ensures g.K.Told.start c.args.host.now.moment c.as_slice-lines.result.now c.new-desk.result c.carry-desk.result.0 c.into_parts-repo.result.0 c.carry-desk.result.1
+    (done_on g.K.Told.start c.args.host.now.moment c.as_slice-lines.result.now c.new-desk.result c.carry-desk.result.0 c.into_parts-repo.result.0
     c.carry-desk.result.1 c.carry-desk.ensures.done c.into_parts-repo.ensures.repo c.new-desk.ensures c.requires.numbered c.requires.readers)
     c.carry-desk.ensures.made c.into_parts-repo.ensures.repo c.new-desk.ensures c.requires.alive)
 

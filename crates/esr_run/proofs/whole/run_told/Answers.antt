@@ -44,9 +44,9 @@ returns-clause-removed g c = subst AreRemovedOnce (sym c.into_parts-depot.ensure
 
 pub returns-clause-done : goal.returns-clause-done
 returns-clause-done g c =
-    subst (λ (l : List Moment). (c.verdict_after-verdict.result.0.status ≡ 8) ⊎ (AreDone g.K.Told.start c.args.moment c.args.asked.now.script [] l ⊎ HasFallen g.K.Told.start c.args.moment c.args.asked.now.script [] l))
+    subst (λ (l : List Moment). (c.verdict_after-verdict.result.0.status ≡ 8) ⊎ (AreDone g.K.Told.start c.args.host.now.moment c.args.asked.now.script [] l ⊎ HasFallen g.K.Told.start c.args.host.now.moment c.args.asked.now.script [] l))
     (sym c.into_parts-depot.ensures.log)
-    (done_or (AreDone g.K.Told.start c.args.moment c.args.asked.now.script [] c.carry_on-worked.result.repo ⊎ HasFallen g.K.Told.start c.args.moment c.args.asked.now.script [] c.carry_on-worked.result.repo)
+    (done_or (AreDone g.K.Told.start c.args.host.now.moment c.args.asked.now.script [] c.carry_on-worked.result.repo ⊎ HasFallen g.K.Told.start c.args.host.now.moment c.args.asked.now.script [] c.carry_on-worked.result.repo)
     c.verdict_after-verdict.result.0.status c.carry_on-worked.result.carried c.carry_on-worked.ensures.done
     (λ lost. c.verdict_after-verdict.ensures.wanting (c.targets_by_lines-listed.ensures.wanting lost)))
 
@@ -54,7 +54,7 @@ pub returns-clause-restored : goal.returns-clause-restored
 returns-clause-restored g c =
     let look = g.D.Depot.look c.into_parts-depot.result.0 in
     by_lines c.each_target_is_of_its_line.ensures (evidence g.D.Stage.Counted.faults g.D.Fetch.Counted.faults g.S.Shard.Counted.faults g.T.Target.Counted.faults g.S.Shard.Shard.told g.T.Target.Target.told)
-    g.K.Told.start c.args.moment c.args.asked.now.script c.carry_on-worked.result.repo (log_of look g.K.Told.clock c.into_parts-depot.result.1) c.into_parts-depot.result.1
+    g.K.Told.start c.args.host.now.moment c.args.asked.now.script c.carry_on-worked.result.repo (log_of look g.K.Told.clock c.into_parts-depot.result.1) c.into_parts-depot.result.1
     c.requires.begun.order.tracked c.requires.begun.read_tracked c.into_parts-depot.ensures.repo.2.steady.legal c.requires.lines
     c.carry_on-worked.ensures.made c.requires.alone c.into_parts-depot.ensures.log (entries_are (image_at look) g.K.Told.clock c.into_parts-depot.result.1)
     c.carry_on-worked.result.restored c.carry_on-worked.ensures.restored c.targets_by_lines-listed.result c.verdict_after-verdict.result.1

@@ -1,11 +1,10 @@
-use Rattle.std.proofs.Common.{map, None, subst, sym}
+use Rattle.std.proofs.Common.{map, None, subst, sym, ℕ, ◌+◌, ◌≤◌, suc, ap, ◌∙◌}
 use Rattle.esr_core.specs.Entry.{Step, DrawnFrom, IdsSpent}
 use Rattle.esr_results.specs.Pruned.{pruned_of}
 use Rattle.esr_repo.specs.Next.{Added}
 use Rattle.esr_repo.specs.May.{MayNote, MayRefuse}
 use Rattle.esr_steps.proofs.DeleteTickets.{planned_ticket}
 use Rattle.esr_steps.proofs.DeleteMays.{may_plan_delete, may_spend_plan}
-use Rattle.std.proofs.Common.{ℕ, ◌+◌, ◌≤◌, suc, ap, ◌∙◌}
 use Rattle.esr_model.specs.Kept.{first_id}
 use Rattle.esr_desk.specs.Start.{world_of}
 use Rattle.esr_steps.proofs.deleting.draw_planned.Goals as goal

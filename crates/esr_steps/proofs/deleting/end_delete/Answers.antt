@@ -1,8 +1,9 @@
 use Rattle.esr_core.specs.Entry.{PruneStep, EndDelete, HasEnded}
-use Rattle.esr_steps.proofs.Stepping.{on_done, seat_is_kept}
+use Rattle.esr_repo.specs.Stepping.{on_done}
+use Rattle.esr_steps.proofs.Stepping.{seat_is_kept}
 use Rattle.esr_steps.proofs.DeleteTickets.{ended_ticket}
 use Rattle.esr_steps.proofs.DeleteMays.{may_end_delete}
-use Rattle.esr_steps.proofs.Fresh.{free_fresh}
+use Rattle.esr_repo.specs.Fresh.{free_fresh}
 use Rattle.esr_steps.proofs.deleting.end_delete.Goals as goal
 
 pub ended-requires : goal.ended-requires

@@ -10,9 +10,9 @@ use Rattle.esr_desk.specs.Start.{formats_of, ticket_of}
 use Rattle.esr_desk.specs.Entries.{step_of}
 use Rattle.esr_desk.specs.declared.unit.Planned.{Planned}
 use Rattle.esr_repo.specs.Next.{Did}
-use Rattle.esr_steps.proofs.Stepping.{did_from}
-use Rattle.esr_steps.proofs.DeletePlans.{plan_now, planned_so}
-use Rattle.esr_steps.proofs.Fresh.{fresh_as, goes_as, own_as}
+use Rattle.esr_repo.specs.Stepping.{did_from, ok_so}
+use Rattle.esr_steps.proofs.DeletePlans.{plan_now}
+use Rattle.esr_repo.specs.Fresh.{fresh_as, goes_as, own_as}
 use Rattle.esr_steps.proofs.deleting.plan_delete.Goals as goal
 
 pub planned-requires-clause-one_each : goal.planned-requires-clause-one_each
@@ -40,11 +40,11 @@ returns-clause-own g c =
 
 pub returns-clause-root : goal.returns-clause-root
 returns-clause-root g c =
-    planned_so c.draw_planned.result c.in_ok-plan.plan
+    ok_so c.draw_planned.result c.in_ok-plan.plan
     (λ (p : Planned). root_of p.root ≡ deleted_root (root_of c.args.root.now) (map number_of c.args.uuids.now) (map pruned_of c.args.shards.now) p.first.number) c.draw_planned.ensures.same c.in_ok-plan.ensures.root
 
 pub returns-clause-range : goal.returns-clause-range
-returns-clause-range g c = planned_so c.draw_planned.result c.in_ok-plan.plan (λ (p : Planned). p.first.number + length c.args.shards.now < 2 ^ 128) c.draw_planned.ensures.same c.in_ok-plan.ensures.range
+returns-clause-range g c = ok_so c.draw_planned.result c.in_ok-plan.plan (λ (p : Planned). p.first.number + length c.args.shards.now < 2 ^ 128) c.draw_planned.ensures.same c.in_ok-plan.ensures.range
 
 pub returns-clause-kept : goal.returns-clause-kept
 returns-clause-kept g c =

@@ -9,7 +9,7 @@ use Rattle.esr_formats.specs.Roots.{root_of}
 use Rattle.esr_desk.specs.Start.{ticket_of}
 use Rattle.esr_desk.specs.Delete.Conditions.{CanSettleDelete}
 use Rattle.esr_steps.proofs.DeleteMays.{may_swap_delete}
-use Rattle.esr_steps.proofs.WithOps.{swap_with}
+use Rattle.esr_repo.specs.WithOps.{swap_with}
 use Rattle.esr_steps.proofs.Stepping.{seat_is_kept}
 use Rattle.esr_steps.proofs.deleting.pruned.Goals as goal
 

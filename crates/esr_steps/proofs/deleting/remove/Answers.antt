@@ -1,13 +1,12 @@
 use Rattle.std.proofs.Common.{List, map, sym, subst}
-use Rattle.esr_core.specs.Entry.{PruneStep, RemoveDoomed}
+use Rattle.esr_core.specs.Entry.{PruneStep, RemoveDoomed, Step}
 use Rattle.esr_names.specs.declared.blob.BlobName.{BlobName as CodeName}
 use Rattle.esr_formats.specs.Names.{name_of}
 use Rattle.esr_desk.specs.Entries.{step_of}
-use Rattle.esr_core.specs.Entry.{Step}
 use Rattle.esr_repo.specs.May.{MayRemove}
 use Rattle.esr_steps.proofs.DeleteTickets.{remove_kept, removes_from}
 use Rattle.esr_steps.proofs.DeleteMays.{may_remove_doomed}
-use Rattle.esr_steps.proofs.Fresh.{fresh_as, goes_as, own_as}
+use Rattle.esr_repo.specs.Fresh.{fresh_as, goes_as, own_as}
 use Rattle.esr_steps.proofs.deleting.remove.Goals as goal
 
 pub call_remove-requires-clause-may : goal.call_remove-requires-clause-may

@@ -2,7 +2,7 @@ use Rattle.std.proofs.Common.{rules}
 use Rattle.esr_core.specs.Entry.{PruneStep, SettlePruned, WasSettled}
 use Rattle.esr_formats.specs.Roots.{root_of}
 use Rattle.esr_ops.specs.Plan.{seat_of_code}
-use Rattle.esr_steps.proofs.Stepping.{on_done, did_from}
+use Rattle.esr_repo.specs.Stepping.{on_done, did_from}
 use Rattle.esr_steps.proofs.DeleteTickets.{settled_ticket, settle_left}
 use Rattle.esr_steps.proofs.DeleteMays.{may_refuse_delete}
 use Rattle.esr_steps.proofs.deleting.settle_delete.Goals as goal

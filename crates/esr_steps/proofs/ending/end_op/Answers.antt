@@ -2,7 +2,7 @@ use Rattle.std.proofs.Common.{rules, List, sym, subst}
 use Rattle.esr_core.specs.Entry.{DroppedStep, HasEnded, Moment}
 use Rattle.esr_ops.specs.Plan.{seat_of_code}
 use Rattle.esr_steps.specs.Leave.{CanLeave}
-use Rattle.esr_steps.proofs.Stepping.{on_done, did_from}
+use Rattle.esr_repo.specs.Stepping.{on_done, did_from}
 use Rattle.esr_steps.proofs.Swapping.{may_refuse_drop, dropped_ticket, drop_left}
 use Rattle.esr_steps.proofs.ending.end_op.Goals as goal
 

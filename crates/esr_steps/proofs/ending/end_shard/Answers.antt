@@ -1,8 +1,9 @@
 use Rattle.esr_core.specs.Entry.{DoneStep, HasEnded}
 use Rattle.esr_results.specs.Results.{result_of}
-use Rattle.esr_steps.proofs.Stepping.{on_done, seat_is_kept}
+use Rattle.esr_repo.specs.Stepping.{on_done}
+use Rattle.esr_steps.proofs.Stepping.{seat_is_kept}
 use Rattle.esr_steps.proofs.Doing.{may_note_done, done_ticket}
-use Rattle.esr_steps.proofs.Fresh.{free_fresh}
+use Rattle.esr_repo.specs.Fresh.{free_fresh}
 use Rattle.esr_steps.proofs.ending.end_shard.Goals as goal
 
 pub shard_done-requires : goal.shard_done-requires

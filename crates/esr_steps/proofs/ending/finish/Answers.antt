@@ -1,7 +1,8 @@
 use Rattle.esr_core.specs.Entry.{FinishStep, HasEnded}
-use Rattle.esr_steps.proofs.Stepping.{on_done, seat_is_kept}
+use Rattle.esr_repo.specs.Stepping.{on_done}
+use Rattle.esr_steps.proofs.Stepping.{seat_is_kept}
 use Rattle.esr_steps.proofs.Ended.{may_finish, finished_ticket}
-use Rattle.esr_steps.proofs.Fresh.{free_fresh}
+use Rattle.esr_repo.specs.Fresh.{free_fresh}
 use Rattle.esr_steps.proofs.ending.finish.Goals as goal
 
 pub ended-requires : goal.ended-requires

@@ -4,7 +4,7 @@ use Rattle.esr_formats.specs.Roots.{root_of}
 use Rattle.esr_ops.specs.Plan.{seat_of_code}
 use Rattle.esr_desk.specs.Conditions.{IsUnpruned}
 use Rattle.esr_desk.specs.Start.{ticket_of}
-use Rattle.esr_steps.proofs.Stepping.{on_done, did_from}
+use Rattle.esr_repo.specs.Stepping.{on_done, did_from}
 use Rattle.esr_steps.proofs.Swapping.{may_refuse_settle, settled_ticket, settle_left}
 use Rattle.esr_steps.proofs.ending.settle.Goals as goal
 

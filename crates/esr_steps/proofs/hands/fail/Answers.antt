@@ -5,8 +5,8 @@ use Rattle.esr_desk.specs.Own.{caller_of}
 use Rattle.esr_desk.specs.Hands.{fail_step, MayFail}
 use Rattle.esr_repo.specs.Next.{Did}
 use Rattle.esr_repo.specs.May.{MayNote}
-use Rattle.esr_steps.proofs.Stepping.{did_from}
-use Rattle.esr_steps.proofs.Fresh.{fresh_as, goes_as, own_as}
+use Rattle.esr_repo.specs.Stepping.{did_from}
+use Rattle.esr_repo.specs.Fresh.{fresh_as, goes_as, own_as}
 use Rattle.esr_steps.proofs.HandSteps.{fail_free, fail_reads, may_fail_by, fail_own, fail_own_kept}
 use Rattle.esr_steps.proofs.hands.fail.Goals as goal
 

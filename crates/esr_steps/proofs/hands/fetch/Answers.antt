@@ -5,7 +5,7 @@ use Rattle.esr_desk.specs.Entries.{step_of}
 use Rattle.esr_desk.specs.Hands.{fetch_step}
 use Rattle.esr_repo.specs.May.{MayFetch}
 use Rattle.esr_repo.specs.Calls.{FetchDid}
-use Rattle.esr_steps.proofs.Fresh.{fresh_as, goes_as, own_as}
+use Rattle.esr_repo.specs.Fresh.{fresh_as, goes_as, own_as}
 use Rattle.esr_steps.proofs.Written.{fetch_did}
 use Rattle.esr_steps.proofs.HandSteps.{fetch_reads, may_fetch_by, fetch_own, fetch_own_kept}
 use Rattle.esr_steps.proofs.hands.fetch.Goals as goal

@@ -4,8 +4,8 @@ use Rattle.esr_depot.specs.declared.listing.Listed.{Listed}
 use Rattle.esr_desk.specs.Entries.{step_of}
 use Rattle.esr_desk.specs.Listing.{page_of}
 use Rattle.esr_repo.specs.Next.{Did}
-use Rattle.esr_steps.proofs.Stepping.{did_from}
-use Rattle.esr_steps.proofs.Fresh.{fresh_as, goes_as, own_as}
+use Rattle.esr_repo.specs.Stepping.{did_from}
+use Rattle.esr_repo.specs.Fresh.{fresh_as, goes_as, own_as}
 use Rattle.esr_steps.proofs.ListSteps.{lists_page, listed_ticket, unlisted_ticket}
 use Rattle.esr_steps.proofs.listing.list.Goals as goal
 

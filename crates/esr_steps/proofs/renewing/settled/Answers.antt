@@ -5,7 +5,7 @@ use Rattle.esr_root.specs.Root.{Root}
 use Rattle.esr_desk.specs.Conditions.{CanSettle}
 use Rattle.esr_desk.specs.Start.{ticket_of}
 use Rattle.esr_steps.proofs.Swapping.{may_swap_settle}
-use Rattle.esr_steps.proofs.WithOps.{swap_with}
+use Rattle.esr_repo.specs.WithOps.{swap_with}
 use Rattle.esr_steps.proofs.Stepping.{seat_is_kept}
 use Rattle.esr_steps.proofs.renewing.settled.Goals as goal
 

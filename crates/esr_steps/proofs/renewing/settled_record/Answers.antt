@@ -1,8 +1,7 @@
-use Rattle.std.proofs.Common.{ap, ◌∙◌, rules}
+use Rattle.std.proofs.Common.{ap, ◌∙◌, rules, subst, sym}
 use Rattle.esr_formats.specs.Clusters.{cluster_of}
 use Rattle.esr_ops.specs.Plan.{seat_of_code}
 use Rattle.esr_record.specs.Record.{Record, AreNumbers}
-use Rattle.std.proofs.Common.{subst, sym}
 use Rattle.esr_steps.proofs.Swapping.{raised_in, settled_ledger}
 use Rattle.esr_steps.proofs.renewing.settled_record.Goals as goal
 

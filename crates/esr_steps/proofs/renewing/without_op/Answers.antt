@@ -4,7 +4,7 @@ use Rattle.esr_core.specs.Entry.{DroppedStep, HasEnded}
 use Rattle.esr_record.specs.Record.{Record}
 use Rattle.esr_formats.specs.Clusters.{cluster_of}
 use Rattle.esr_steps.proofs.Swapping.{may_swap_drop, leaves_out}
-use Rattle.esr_steps.proofs.WithOps.{swap_with}
+use Rattle.esr_repo.specs.WithOps.{swap_with}
 use Rattle.esr_steps.proofs.Stepping.{seat_is_kept}
 use Rattle.esr_steps.proofs.renewing.without_op.Goals as goal
 

@@ -30,24 +30,24 @@ begin-requires-clause-may g c = inl ([], c.requires.may.may [])
 pub returns-in_err-named-clause-trouble : goal.returns-in_err-named-clause-trouble
 returns-in_err-named-clause-trouble g c =
     let s = g.Q.Desk.start in
-    let refusal = c.in_err-named.field-0.0 in
     let old = g.Q.Desk.seen c.args.desk.now in
     let log = g.Q.Desk.seen c.begin.new.self in
     let e = evidence g.Q.Stage.Counted.faults g.Q.Fetch.Counted.faults g.Q.Shard.Counted.faults g.Q.Target.Counted.faults g.Q.Shard.Shard.told g.Q.Target.Target.told in
     let files = (g.S.Shard.told c.args.shard.now).files in
     let n = g.S.Counted.faults c.args.shard.now in
     let may = c.requires.may in
-    let same = begun_is s c.args.name c.begin.result (ticket_of s old c.args.ticket) (ticket_of s log c.args.ticket) may c.begin.ensures.own in
-    passed_on c.from_residual.result (Shown e n files s log c.args.ticket) (Step refusal) c.from_residual.ensures.1
-    (step_shown e n files s old log c.args.ticket may.index may.number (ap (λ (t : Ticket). t.work) same ∙ may.work) (BeginStep (name_of c.args.name)) refusal c.refusals_are_of_their_steps.ensures tt (λ swap. swap) c.in_err-named.ensures.step)
+    let same = begun_is s c.args.part.name c.begin.result (ticket_of s old c.args.job.now.ticket) (ticket_of s log c.args.job.now.ticket) may c.begin.ensures.own in
+    passed_on c.from_residual.result (Shown e n files s log c.args.job.now.ticket) (Step c.in_err-named.field-0.0) c.from_residual.ensures.1
+    (step_shown e n files s old log c.args.job.now.ticket may.index may.number (ap (λ (t : Ticket). t.work) same ∙ may.work)
+    (BeginStep (name_of c.args.part.name)) c.in_err-named.field-0.0 c.refusals_are_of_their_steps.ensures tt (λ swap. swap) c.in_err-named.ensures.step)
 
 pub returns-in_err-named-clause-went : goal.returns-in_err-named-clause-went
 returns-in_err-named-clause-went g c =
     let s = g.Q.Desk.start in
     let old = g.Q.Desk.seen c.args.desk.now in
     let new = g.Q.Desk.seen c.begin.new.self in
-    went_same s old new c.args.ticket (refusing_grew_by s old new c.args.ticket (BeginStep (name_of c.args.name)) (told_refusal c.in_err-named.field-0.0) c.in_err-named.ensures.step.0)
-    (begun_is s c.args.name c.begin.result (ticket_of s old c.args.ticket) (ticket_of s new c.args.ticket) c.requires.may c.begin.ensures.own)
+    went_same s old new c.args.job.now.ticket (refusing_grew_by s old new c.args.job.now.ticket (BeginStep (name_of c.args.part.name)) (told_refusal c.in_err-named.field-0.0) c.in_err-named.ensures.step.0)
+    (begun_is s c.args.part.name c.begin.result (ticket_of s old c.args.job.now.ticket) (ticket_of s new c.args.job.now.ticket) c.requires.may c.begin.ensures.own)
 
 pub returns-in-Err-Stage-clause-trouble : goal.returns-in-Err-Stage-clause-trouble
 returns-in-Err-Stage-clause-trouble g c = (
@@ -71,7 +71,7 @@ commit-requires-clause-may g c =
     let begun = c.in_ok-named.ensures in (
       copied.piece,
       stage_holds s (g.Q.Stage.Stage.contents c.in_ok-named.named.stage) (g.Q.Stage.Stage.contents c.copy_part.new.stage) copied.piece begun.contents copied.stage_is,
-      can_commit s (ticket_of s (g.Q.Desk.seen c.args.desk.now) c.args.ticket) (ticket_of s (g.Q.Desk.seen c.begin.new.self) c.args.ticket) c.args.name c.in_ok-named.named.name copied.piece c.requires.may begun.own begun.name,
+      can_commit s (ticket_of s (g.Q.Desk.seen c.args.desk.now) c.args.job.now.ticket) (ticket_of s (g.Q.Desk.seen c.begin.new.self) c.args.job.now.ticket) c.args.part.name c.in_ok-named.named.name copied.piece c.requires.may begun.own begun.name,
     )
 
 pub returns-clause-put : goal.returns-clause-put
@@ -80,12 +80,12 @@ returns-clause-put g c =
     let begun = c.in_ok-named.ensures in
     let committed = c.in_ok-commit.ensures in
     part_put s (g.S.Shard.told c.args.shard.now).left (g.S.Shard.told c.copy_part.new.shard).left (g.Q.Stage.Stage.contents c.in_ok-named.named.stage) (g.Q.Stage.Stage.contents c.copy_part.new.stage)
-    c.args.hasher.now c.copy_part.new.hasher (ticket_of s (g.Q.Desk.seen c.args.desk.now) c.args.ticket) (ticket_of s (g.Q.Desk.seen c.begin.new.self) c.args.ticket) (ticket_of s (g.Q.Desk.seen c.commit.new.self) c.args.ticket)
-    c.args.name c.in_ok-named.named.name c.args.size c.in_ok-commit.field-0
+    c.args.hasher.now c.copy_part.new.hasher (ticket_of s (g.Q.Desk.seen c.args.desk.now) c.args.job.now.ticket)
+    (ticket_of s (g.Q.Desk.seen c.begin.new.self) c.args.job.now.ticket) (ticket_of s (g.Q.Desk.seen c.commit.new.self) c.args.job.now.ticket) c.args.part.name c.in_ok-named.named.name c.args.part.size c.in_ok-commit.field-0
     (subst (λ (full : Bool). Copied (g.S.Shard.told c.args.shard.now).left (g.S.Shard.told c.copy_part.new.shard).left (g.Q.Stage.Stage.contents c.in_ok-named.named.stage)
-    (g.Q.Stage.Stage.contents c.copy_part.new.stage) c.args.hasher.now c.copy_part.new.hasher c.args.size full) c.in-Ok-true.field-0-test c.in-Ok-true.ensures.copied)
+    (g.Q.Stage.Stage.contents c.copy_part.new.stage) c.args.hasher.now c.copy_part.new.hasher c.args.part.size full) c.in-Ok-true.field-0-test c.in-Ok-true.ensures.copied)
     begun.contents begun.own begun.name
-    (not_there c.args.name c.in_ok-named.named.name c.in_ok-commit.field-0 begun.name c.requires.may.own committed.found) committed.own
+    (not_there c.args.part.name c.in_ok-named.named.name c.in_ok-commit.field-0 begun.name c.requires.may.own committed.found) committed.own
 
 pub returns-clause-went : goal.returns-clause-went
 returns-clause-went g c =
@@ -93,9 +93,9 @@ returns-clause-went g c =
     let old = g.Q.Desk.seen c.args.desk.now in
     let mid = g.Q.Desk.seen c.begin.new.self in
     let new = g.Q.Desk.seen c.commit.new.self in
-    went_put s (g.S.Shard.told c.args.shard.now).left (g.S.Shard.told c.copy_part.new.shard).left c.args.hasher.now c.copy_part.new.hasher old mid new c.args.ticket (name_of c.args.name) c.args.size
-    (stepped_grew_by s old mid c.args.ticket (BeginStep (name_of c.args.name)) WasBegun c.in_ok-named.ensures.step)
-    (stepped_grew_by s mid new c.args.ticket (CommitStep (name_of c.in_ok-named.named.name)) (commit_reply c.in_ok-commit.field-0) c.in_ok-commit.ensures.step)
+    went_put s (g.S.Shard.told c.args.shard.now).left (g.S.Shard.told c.copy_part.new.shard).left c.args.hasher.now c.copy_part.new.hasher old mid new c.args.job.now.ticket (name_of c.args.part.name) c.args.part.size
+    (stepped_grew_by s old mid c.args.job.now.ticket (BeginStep (name_of c.args.part.name)) WasBegun c.in_ok-named.ensures.step)
+    (stepped_grew_by s mid new c.args.job.now.ticket (CommitStep (name_of c.in_ok-named.named.name)) (commit_reply c.in_ok-commit.field-0) c.in_ok-commit.ensures.step)
     (returns-clause-put g c)
 
 pub returns-in_err-commit-clause-trouble : goal.returns-in_err-commit-clause-trouble
@@ -109,9 +109,9 @@ returns-in_err-commit-clause-trouble g c =
     let files = (g.S.Shard.told c.args.shard.now).files in
     let n = g.S.Counted.faults c.copy_part.new.shard in
     let may = c.requires.may in
-    passed_on c.from_residual-in_err-commit.result (Shown e n files s log c.args.ticket) (Step refusal) c.from_residual-in_err-commit.ensures.1
-    (step_shown e n files s mid log c.args.ticket may.index may.number (ap (λ (t : Ticket). t.work) (c.in_err-commit.ensures.kept ∙ c.in_ok-named.ensures.own) ∙ may.work) step refusal c.refusals_are_of_their_steps.ensures tt (λ swap. swap)
-    c.in_err-commit.ensures.step)
+    passed_on c.from_residual-in_err-commit.result (Shown e n files s log c.args.job.now.ticket) (Step refusal) c.from_residual-in_err-commit.ensures.1
+    (step_shown e n files s mid log c.args.job.now.ticket may.index may.number (ap (λ (t : Ticket). t.work) (c.in_err-commit.ensures.kept ∙ c.in_ok-named.ensures.own) ∙ may.work)
+    step refusal c.refusals_are_of_their_steps.ensures tt (λ swap. swap) c.in_err-commit.ensures.step)
 
 pub returns-in_err-commit-clause-went : goal.returns-in_err-commit-clause-went
 returns-in_err-commit-clause-went g c =
@@ -121,24 +121,24 @@ returns-in_err-commit-clause-went g c =
     let new = g.Q.Desk.seen c.commit.new.self in
     let begun = c.in_ok-named.ensures in
     let refused = c.in_err-commit.ensures in
-    went_refused s old mid new c.args.ticket
-    (stepped_grew_by s old mid c.args.ticket (BeginStep (name_of c.args.name)) WasBegun begun.step)
-    (refusing_grew_by s mid new c.args.ticket (CommitStep (name_of c.in_ok-named.named.name)) (told_refusal c.in_err-commit.field-0.0) refused.step.0)
+    went_refused s old mid new c.args.job.now.ticket
+    (stepped_grew_by s old mid c.args.job.now.ticket (BeginStep (name_of c.args.part.name)) WasBegun begun.step)
+    (refusing_grew_by s mid new c.args.job.now.ticket (CommitStep (name_of c.in_ok-named.named.name)) (told_refusal c.in_err-commit.field-0.0) refused.step.0)
     begun.own refused.kept
 
 pub begin-requires-clause-new : goal.begin-requires-clause-new
 begin-requires-clause-new g c =
     let may = c.requires.may.may [] in
-    begin_fresh g.Q.Desk.start (g.Q.Desk.seen c.args.desk.now) c.args.ticket (name_of c.args.name) c.requires.tells may.stored (may.once c.requires.may.own)
+    begin_fresh g.Q.Desk.start (g.Q.Desk.seen c.args.desk.now) c.args.job.now.ticket (name_of c.args.part.name) c.requires.tells may.stored (may.once c.requires.may.own)
 
 pub commit-requires-clause-new : goal.commit-requires-clause-new
 commit-requires-clause-new g c =
     let s = g.Q.Desk.start in
     let mid = g.Q.Desk.seen c.begin.new.self in
-    let who = c.args.ticket in
+    let who = c.args.job.now.ticket in
     let may = c.requires.may.may [] in
     subst (λ (n : CodeName). IsFresh s mid who (CommitStep (name_of n))) (sym c.in_ok-named.ensures.name)
-    (commit_fresh s (g.Q.Desk.seen c.args.desk.now) mid who (name_of c.args.name) c.requires.mine.some c.requires.tells (may.once c.requires.may.own) c.in_ok-named.ensures.step)
+    (commit_fresh s (g.Q.Desk.seen c.args.desk.now) mid who (name_of c.args.part.name) c.requires.mine.some c.requires.tells (may.once c.requires.may.own) c.in_ok-named.ensures.step)
 
 pub returns-clause-tells : goal.returns-clause-tells
 returns-clause-tells g c =
@@ -146,17 +146,17 @@ returns-clause-tells g c =
     let old = g.Q.Desk.seen c.args.desk.now in
     let mid = g.Q.Desk.seen c.begin.new.self in
     let new = g.Q.Desk.seen c.commit.new.self in
-    let who = c.args.ticket in
+    let who = c.args.job.now.ticket in
     let contents = g.Q.Stage.Stage.contents c.copy_part.new.stage in
     let done = c.in_ok-commit.field-0 in
     let is = ap name_of c.in_ok-named.ensures.name in
     let may = c.requires.may.may [] in
-    λ full. blob_tells s old mid new who (name_of c.args.name) contents done c.requires.mine.some c.requires.tells may.stored c.in_ok-named.ensures.step c.in_ok-named.ensures.own
+    λ full. blob_tells s old mid new who (name_of c.args.part.name) contents done c.requires.mine.some c.requires.tells may.stored c.in_ok-named.ensures.step c.in_ok-named.ensures.own
     (subst (λ (n : BlobName). Stepped s mid new who (CommitStep n) (commit_reply done)) is c.in_ok-commit.ensures.step)
     (subst (λ (n : BlobName). ticket_of s new who ≡ committed_by n contents done (ticket_of s mid who)) is c.in_ok-commit.ensures.own)
 
 pub commit-requires-clause-mine : goal.commit-requires-clause-mine
-commit-requires-clause-mine g c = subst (λ (calls : List Call). HasTaken calls c.args.ticket) (sym c.begin.ensures.calls) c.requires.mine
+commit-requires-clause-mine g c = subst (λ (calls : List Call). HasTaken calls c.args.job.now.ticket) (sym c.begin.ensures.calls) c.requires.mine
 
 pub returns-in_err-named-clause-kept : goal.returns-in_err-named-clause-kept
 returns-in_err-named-clause-kept g c = refl

@@ -23,9 +23,9 @@ loop-number-init g c = record {
   took = consumes_none (g.S.Shard.told c.args.shard.now).left;
   fed = c.requires.fresh;
   count = omega arith;
-  is = cut_none g.Q.Desk.start (blob_name c.args.at c.args.entry.now) c.args.entry.now.part_size (ticket_of g.Q.Desk.start (g.Q.Desk.seen c.args.desk.now) c.args.ticket);
+  is = cut_none g.Q.Desk.start (blob_name c.args.job.now.at c.args.entry.now) c.args.entry.now.part_size (ticket_of g.Q.Desk.start (g.Q.Desk.seen c.args.desk.now) c.args.job.now.ticket);
   tells = c.requires.tells;
-  went = went_none g.Q.Desk.start (g.Q.Desk.seen c.args.desk.now) c.args.ticket;
+  went = went_none g.Q.Desk.start (g.Q.Desk.seen c.args.desk.now) c.args.job.now.ticket;
 }
 
 pub put_part-requires-clause-may : goal.put_part-requires-clause-may
@@ -37,7 +37,7 @@ put_part-requires-clause-may g c κs within =
     let test : number < c.part_count-number-end.result = c.loop-number-test.true in
     let less : number < part_count e.print.len e.part_size = omega (arith, test, c.part_count-number-end.ensures.count) in
     let low : number * e.part_size < 2 ^ 61 = omega (arith, c.part_plan-size.ensures.place, c.part_plan-size.ensures.within, c.requires.short) in
-    can_store_next s (ticket_of s (g.Q.Desk.seen c.args.desk.now) c.args.ticket) (ticket_of s (g.Q.Desk.seen c.loop-number.desk) c.args.ticket) inv.bytes c.args.at e number c.part_name-name.result
+    can_store_next s (ticket_of s (g.Q.Desk.seen c.args.desk.now) c.args.job.now.ticket) (ticket_of s (g.Q.Desk.seen c.loop-number.desk) c.args.job.now.ticket) inv.bytes c.args.job.now.at e number c.part_name-name.result
     c.requires.may c.requires.few c.requires.numbered c.requires.size.0 low less inv.is c.part_name-name.ensures
 
 pub loop-number-preserved : goal.loop-number-preserved
@@ -67,11 +67,11 @@ loop-number-preserved g c =
       took = consumes_more (g.S.Shard.told c.args.shard.now).left (g.S.Shard.told c.loop-number.shard).left (g.S.Shard.told c.put_part.new.shard).left inv.bytes put.piece inv.took put.took;
       fed = put.fed.joined inv.bytes inv.fed;
       count = omega (arith, sum, len, piece, next, fits);
-      is = cut_put s c.args.at e number inv.bytes put.piece c.part_name-name.result
-          (ticket_of s (g.Q.Desk.seen c.args.desk.now) c.args.ticket) (ticket_of s (g.Q.Desk.seen c.loop-number.desk) c.args.ticket) (ticket_of s (g.Q.Desk.seen c.put_part.new.desk) c.args.ticket)
+      is = cut_put s c.args.job.now.at e number inv.bytes put.piece c.part_name-name.result
+          (ticket_of s (g.Q.Desk.seen c.args.desk.now) c.args.job.now.ticket) (ticket_of s (g.Q.Desk.seen c.loop-number.desk) c.args.job.now.ticket) (ticket_of s (g.Q.Desk.seen c.put_part.new.desk) c.args.job.now.ticket)
           len within inv.is whole.1 c.part_name-name.ensures;
       tells = done.tells c.if-not-branch.false;
-      went = went_on s (g.Q.Desk.seen c.args.desk.now) (g.Q.Desk.seen c.loop-number.desk) (g.Q.Desk.seen c.put_part.new.desk) c.args.ticket inv.went done.went;
+      went = went_on s (g.Q.Desk.seen c.args.desk.now) (g.Q.Desk.seen c.loop-number.desk) (g.Q.Desk.seen c.put_part.new.desk) c.args.job.now.ticket inv.went done.went;
     }
 
 pub returns-clause-put : goal.returns-clause-put
@@ -79,8 +79,8 @@ returns-clause-put g c =
     let inv = c.loop-number.invariant in
     let s = g.Q.Desk.start in
     let last : c.loop-number.number ≡ c.part_count-number-end.result = omega (arith, c.loop-number.auto.number-end, c.loop-number-test.false) in
-    all_put s (g.S.Shard.told c.args.shard.now).left (g.S.Shard.told c.loop-number.shard).left c.loop-number.hasher c.args.at c.args.entry.now
-    (ticket_of s (g.Q.Desk.seen c.args.desk.now) c.args.ticket) (ticket_of s (g.Q.Desk.seen c.loop-number.desk) c.args.ticket) c.loop-number.number c.part_count-number-end.result inv.bytes
+    all_put s (g.S.Shard.told c.args.shard.now).left (g.S.Shard.told c.loop-number.shard).left c.loop-number.hasher c.args.job.now.at c.args.entry.now
+    (ticket_of s (g.Q.Desk.seen c.args.desk.now) c.args.job.now.ticket) (ticket_of s (g.Q.Desk.seen c.loop-number.desk) c.args.job.now.ticket) c.loop-number.number c.part_count-number-end.result inv.bytes
     c.requires.size.0 last c.part_count-number-end.ensures.count inv.took inv.fed inv.count inv.is
 
 pub returns-then-not-branch-clause-put : goal.returns-then-not-branch-clause-put
@@ -93,15 +93,15 @@ returns-then-not-branch-clause-put g c =
     let number = c.loop-number.number in
     let plan = c.part_plan-size.ensures in
     let less : length inv.bytes + length put.piece < e.print.len = omega (arith, inv.count, short.0, plan.place, plan.within) in
-    short_put s (g.S.Shard.told c.args.shard.now).left (g.S.Shard.told c.loop-number.shard).left (g.S.Shard.told c.put_part.new.shard).left c.put_part.new.hasher c.args.at e
-    (ticket_of s (g.Q.Desk.seen c.args.desk.now) c.args.ticket) (ticket_of s (g.Q.Desk.seen c.put_part.new.desk) c.args.ticket) inv.bytes put.piece
+    short_put s (g.S.Shard.told c.args.shard.now).left (g.S.Shard.told c.loop-number.shard).left (g.S.Shard.told c.put_part.new.shard).left c.put_part.new.hasher c.args.job.now.at e
+    (ticket_of s (g.Q.Desk.seen c.args.desk.now) c.args.job.now.ticket) (ticket_of s (g.Q.Desk.seen c.put_part.new.desk) c.args.job.now.ticket) inv.bytes put.piece
     inv.took put.took (put.fed.joined inv.bytes inv.fed) short.1 less
 
 pub returns-in_err-put_part-clause-went : goal.returns-in_err-put_part-clause-went
-returns-in_err-put_part-clause-went g c = went_on g.Q.Desk.start (g.Q.Desk.seen c.args.desk.now) (g.Q.Desk.seen c.loop-number.desk) (g.Q.Desk.seen c.put_part.new.desk) c.args.ticket c.loop-number.invariant.went c.put_part.ensures.went
+returns-in_err-put_part-clause-went g c = went_on g.Q.Desk.start (g.Q.Desk.seen c.args.desk.now) (g.Q.Desk.seen c.loop-number.desk) (g.Q.Desk.seen c.put_part.new.desk) c.args.job.now.ticket c.loop-number.invariant.went c.put_part.ensures.went
 
 pub returns-then-not-branch-clause-went : goal.returns-then-not-branch-clause-went
-returns-then-not-branch-clause-went g c = went_on g.Q.Desk.start (g.Q.Desk.seen c.args.desk.now) (g.Q.Desk.seen c.loop-number.desk) (g.Q.Desk.seen c.put_part.new.desk) c.args.ticket c.loop-number.invariant.went c.put_part.ensures.went
+returns-then-not-branch-clause-went g c = went_on g.Q.Desk.start (g.Q.Desk.seen c.args.desk.now) (g.Q.Desk.seen c.loop-number.desk) (g.Q.Desk.seen c.put_part.new.desk) c.args.job.now.ticket c.loop-number.invariant.went c.put_part.ensures.went
 
 pub returns-clause-tells : goal.returns-clause-tells
 returns-clause-tells g c = let inv = c.loop-number.invariant in record { bytes = inv.bytes; fed = inv.fed; tells = λ all. inv.tells }
@@ -120,7 +120,7 @@ returns-then-not-branch-clause-tells g c =
 -- ---- what it leaves of the shard and of the calls
 
 pub put_part-requires-clause-mine : goal.put_part-requires-clause-mine
-put_part-requires-clause-mine g c κs within = subst (λ (calls : List Call). HasTaken calls c.args.ticket) (sym c.loop-number.invariant.calls) c.requires.mine
+put_part-requires-clause-mine g c κs within = subst (λ (calls : List Call). HasTaken calls c.args.job.now.ticket) (sym c.loop-number.invariant.calls) c.requires.mine
 
 pub returns-in_err-put_part-clause-kept : goal.returns-in_err-put_part-clause-kept
 returns-in_err-put_part-clause-kept g c = read_on (g.S.Shard.told c.args.shard.now) (g.S.Shard.told c.loop-number.shard) (g.S.Shard.told c.put_part.new.shard) c.loop-number.invariant.kept c.put_part.ensures.kept
@@ -148,5 +148,5 @@ returns-in_err-put_part-clause-trouble g c =
     let n = g.S.Counted.faults c.put_part.new.shard in
     let trouble = c.in_err-put_part.field-0.0 in
     let files : (g.S.Shard.told c.loop-number.shard).files ≡ (g.S.Shard.told c.args.shard.now).files = ap (λ (t : ShardTold). t.files) c.loop-number.invariant.kept in
-    passed_on c.from_residual.result (Shown e n (g.S.Shard.told c.args.shard.now).files s new c.args.ticket) trouble c.from_residual.ensures.1
-    (subst (λ (o : Option FileList). Shown e n o s new c.args.ticket trouble) files c.in_err-put_part.ensures.trouble)
+    passed_on c.from_residual.result (Shown e n (g.S.Shard.told c.args.shard.now).files s new c.args.job.now.ticket) trouble c.from_residual.ensures.1
+    (subst (λ (o : Option FileList). Shown e n o s new c.args.job.now.ticket trouble) files c.in_err-put_part.ensures.trouble)

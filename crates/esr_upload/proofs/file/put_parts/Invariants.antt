@@ -21,8 +21,8 @@ invariant-loop-number g l =
       took : Consumes (g.S.Shard.told l.fn.shard).left (g.S.Shard.told l.shard).left bytes;
       fed : HasFed l.hasher bytes;
       count : length bytes ≡ min (l.number * l.entry.part_size) l.entry.print.len;
-      is : ticket_of g.Q.Desk.start (g.Q.Desk.seen l.desk) l.ticket
-          ≡ after_writes g.Q.Desk.start (cut (blob_name l.at l.entry) l.entry.part_size 0 l.number bytes) (ticket_of g.Q.Desk.start (g.Q.Desk.seen l.fn.desk) l.ticket);
-      tells : TellsAll g.Q.Desk.start (g.Q.Desk.seen l.desk) l.ticket;
-      went : Went g.Q.Desk.start (g.Q.Desk.seen l.fn.desk) (g.Q.Desk.seen l.desk) l.ticket;
+      is : ticket_of g.Q.Desk.start (g.Q.Desk.seen l.desk) l.job.ticket
+          ≡ after_writes g.Q.Desk.start (cut (blob_name l.job.at l.entry) l.entry.part_size 0 l.number bytes) (ticket_of g.Q.Desk.start (g.Q.Desk.seen l.fn.desk) l.job.ticket);
+      tells : TellsAll g.Q.Desk.start (g.Q.Desk.seen l.desk) l.job.ticket;
+      went : Went g.Q.Desk.start (g.Q.Desk.seen l.fn.desk) (g.Q.Desk.seen l.desk) l.job.ticket;
     }

@@ -28,7 +28,7 @@ use Rattle.esr_upload.proofs.files.store_files.Goals as goal
 pub loop-file-init : goal.loop-file-init
 loop-file-init g c =
     let s = g.Q.Desk.start in
-    let t = ticket_of s (g.Q.Desk.seen c.args.desk.now) c.args.ticket in
+    let t = ticket_of s (g.Q.Desk.seen c.args.desk.now) c.args.job.now.ticket in
     record {
       calls = refl;
       told = c.requires.told;
@@ -40,10 +40,10 @@ loop-file-init g c =
       steady = λ sure. refl;
       buffer = refl;
       tells = c.requires.tells;
-      went = went_none s (g.Q.Desk.seen c.args.desk.now) c.args.ticket;
+      went = went_none s (g.Q.Desk.seen c.args.desk.now) c.args.job.now.ticket;
       next = omega arith;
-      stored = subst (λ (es : List CodeEntry). StoredFirst s (g.S.Shard.told c.args.shard.now).files c.args.at.index.number c.args.at.number c.args.part_size c.args.first.number 0 c.args.plans.now es t t) (sym c.new-entries.ensures)
-          (stored_none s (g.S.Shard.told c.args.shard.now).files c.args.at.index.number c.args.at.number c.args.part_size c.args.first.number c.args.plans.now t);
+      stored = subst (λ (es : List CodeEntry). StoredFirst s (g.S.Shard.told c.args.shard.now).files c.args.job.now.at.index.number c.args.job.now.at.number c.args.job.now.part_size c.args.first.number 0 c.args.plans.now es t t)
+          (sym c.new-entries.ensures) (stored_none s (g.S.Shard.told c.args.shard.now).files c.args.job.now.at.index.number c.args.job.now.at.number c.args.job.now.part_size c.args.first.number c.args.plans.now t);
     }
 
 pub store_one-requires-clause-drew : goal.store_one-requires-clause-drew
@@ -78,13 +78,13 @@ overflow_add-next g c =
 pub loop-file-preserved : goal.loop-file-preserved
 loop-file-preserved g c =
     let s = g.Q.Desk.start in
-    let who = c.args.ticket in
+    let who = c.args.job.now.ticket in
     let ps = c.args.plans.now in
     let i = c.loop-file.file in
     let p = c.index-plans-file.result in
     let told = (g.S.Shard.told c.args.shard.now).files in
-    let index = c.args.at.index.number in
-    let number = c.args.at.number in
+    let index = c.args.job.now.at.index.number in
+    let number = c.args.job.now.at.number in
     let old = ticket_of s (g.Q.Desk.seen c.args.desk.now) who in
     let mid = ticket_of s (g.Q.Desk.seen c.loop-file.desk) who in
     let new = ticket_of s (g.Q.Desk.seen c.store_one.new.desk) who in
@@ -111,18 +111,18 @@ loop-file-preserved g c =
       tells = c.in_ok-entry.ensures.tells;
       went = went_on s (g.Q.Desk.seen c.args.desk.now) (g.Q.Desk.seen c.loop-file.desk) (g.Q.Desk.seen c.store_one.new.desk) who inv.went c.store_one.ensures.went;
       next = omega (arith, count, is, from, next);
-      stored = subst (λ (es : List CodeEntry). StoredFirst s told index number c.args.part_size c.args.first.number (i + 1) ps es old new) (sym c.in_ok-push.ensures.ok)
-          (stored_next s told (g.S.Shard.told c.args.shard.now).listed index number c.args.part_size c.args.first.number i c.loop-file.next.number ps p c.loop-file.entries e old mid new
+      stored = subst (λ (es : List CodeEntry). StoredFirst s told index number c.args.job.now.part_size c.args.first.number (i + 1) ps es old new) (sym c.in_ok-push.ensures.ok)
+          (stored_next s told (g.S.Shard.told c.args.shard.now).listed index number c.args.job.now.part_size c.args.first.number i c.loop-file.next.number ps p c.loop-file.entries e old mid new
           c.requires.reads c.loop-file-test.true c.index-plans-file.is next inv.stored c.in_ok-entry.ensures.entry one);
     }
 
 pub returns-clause-stored : goal.returns-clause-stored
 returns-clause-stored g c =
     let s = g.Q.Desk.start in
-    let who = c.args.ticket in
+    let who = c.args.job.now.ticket in
     let le : length c.args.plans.now ≤ c.loop-file.file = omega arith in
-    stored_all s (g.S.Shard.told c.args.shard.now).files (g.S.Shard.told c.args.shard.now).listed c.args.at.index.number c.args.at.number c.args.part_size c.args.first.number c.loop-file.file c.args.plans.now c.loop-file.entries
-    (ticket_of s (g.Q.Desk.seen c.args.desk.now) who) (ticket_of s (g.Q.Desk.seen c.loop-file.desk) who) c.requires.reads le c.loop-file.invariant.stored
+    stored_all s (g.S.Shard.told c.args.shard.now).files (g.S.Shard.told c.args.shard.now).listed c.args.job.now.at.index.number c.args.job.now.at.number c.args.job.now.part_size c.args.first.number c.loop-file.file c.args.plans.now
+    c.loop-file.entries (ticket_of s (g.Q.Desk.seen c.args.desk.now) who) (ticket_of s (g.Q.Desk.seen c.loop-file.desk) who) c.requires.reads le c.loop-file.invariant.stored
 
 pub returns-clause-below : goal.returns-clause-below
 returns-clause-below g c =
@@ -133,23 +133,23 @@ returns-clause-below g c =
     let count : new_count (take i ps) ≡ new_count ps = ap new_count (take_all i ps le) in
     let next = inv.next in
     let last : c.loop-file.next.number ≤ c.args.first.number + new_count ps = omega (arith, next, count) in
-    are_below_later (ticket_of g.Q.Desk.start (g.Q.Desk.seen c.loop-file.desk) c.args.ticket) c.loop-file.next.number (c.args.first.number + new_count ps) last inv.below
+    are_below_later (ticket_of g.Q.Desk.start (g.Q.Desk.seen c.loop-file.desk) c.args.job.now.ticket) c.loop-file.next.number (c.args.first.number + new_count ps) last inv.below
 
 pub returns-in_err-entry-clause-went : goal.returns-in_err-entry-clause-went
-returns-in_err-entry-clause-went g c = went_on g.Q.Desk.start (g.Q.Desk.seen c.args.desk.now) (g.Q.Desk.seen c.loop-file.desk) (g.Q.Desk.seen c.store_one.new.desk) c.args.ticket c.loop-file.invariant.went c.store_one.ensures.went
+returns-in_err-entry-clause-went g c = went_on g.Q.Desk.start (g.Q.Desk.seen c.args.desk.now) (g.Q.Desk.seen c.loop-file.desk) (g.Q.Desk.seen c.store_one.new.desk) c.args.job.now.ticket c.loop-file.invariant.went c.store_one.ensures.went
 
 pub returns-in_err-push-clause-went : goal.returns-in_err-push-clause-went
-returns-in_err-push-clause-went g c = went_on g.Q.Desk.start (g.Q.Desk.seen c.args.desk.now) (g.Q.Desk.seen c.loop-file.desk) (g.Q.Desk.seen c.store_one.new.desk) c.args.ticket c.loop-file.invariant.went c.store_one.ensures.went
+returns-in_err-push-clause-went g c = went_on g.Q.Desk.start (g.Q.Desk.seen c.args.desk.now) (g.Q.Desk.seen c.loop-file.desk) (g.Q.Desk.seen c.store_one.new.desk) c.args.job.now.ticket c.loop-file.invariant.went c.store_one.ensures.went
 
 -- ---- what it leaves of the shard and of the calls
 
 pub store_one-requires-clause-mine : goal.store_one-requires-clause-mine
-store_one-requires-clause-mine g c κs within = subst (λ (calls : List Call). HasTaken calls c.args.ticket) (sym c.loop-file.invariant.calls) c.requires.mine
+store_one-requires-clause-mine g c κs within = subst (λ (calls : List Call). HasTaken calls c.args.job.now.ticket) (sym c.loop-file.invariant.calls) c.requires.mine
 
 pub store_one-requires-clause-told : goal.store_one-requires-clause-told
 store_one-requires-clause-told g c κs within =
     let s = g.Q.Desk.start in
-    subst (λ (o : Option FileList). IsToldBy s o c.args.at.number (ticket_of s (g.Q.Desk.seen c.loop-file.desk) c.args.ticket)) (sym (ap (λ (t : ShardTold). t.files) c.loop-file.invariant.kept)) c.loop-file.invariant.told
+    subst (λ (o : Option FileList). IsToldBy s o c.args.job.now.at.number (ticket_of s (g.Q.Desk.seen c.loop-file.desk) c.args.job.now.ticket)) (sym (ap (λ (t : ShardTold). t.files) c.loop-file.invariant.kept)) c.loop-file.invariant.told
 
 pub returns-in_err-entry-clause-kept : goal.returns-in_err-entry-clause-kept
 returns-in_err-entry-clause-kept g c = read_on (g.S.Shard.told c.args.shard.now) (g.S.Shard.told c.loop-file.shard) (g.S.Shard.told c.store_one.new.shard) c.loop-file.invariant.kept c.store_one.ensures.kept
@@ -176,8 +176,8 @@ returns-in_err-entry-clause-trouble g c =
     let e = evidence g.Q.Stage.Counted.faults g.Q.Fetch.Counted.faults g.Q.Shard.Counted.faults g.Q.Target.Counted.faults g.Q.Shard.Shard.told g.Q.Target.Target.told in
     let n = g.S.Counted.faults c.store_one.new.shard in
     let trouble = c.in_err-entry.field-0.0 in
-    passed_on c.from_residual.result (Shown e n (g.S.Shard.told c.args.shard.now).files s new c.args.ticket) trouble c.from_residual.ensures.1
-    (subst (λ (o : Option FileList). Shown e n o s new c.args.ticket trouble) (ap (λ (t : ShardTold). t.files) c.loop-file.invariant.kept) c.in_err-entry.ensures.trouble)
+    passed_on c.from_residual.result (Shown e n (g.S.Shard.told c.args.shard.now).files s new c.args.job.now.ticket) trouble c.from_residual.ensures.1
+    (subst (λ (o : Option FileList). Shown e n o s new c.args.job.now.ticket trouble) (ap (λ (t : ShardTold). t.files) c.loop-file.invariant.kept) c.in_err-entry.ensures.trouble)
 
 pub returns-in_err-push-clause-trouble : goal.returns-in_err-push-clause-trouble
 returns-in_err-push-clause-trouble g c =
@@ -186,7 +186,7 @@ returns-in_err-push-clause-trouble g c =
     let e = evidence g.Q.Stage.Counted.faults g.Q.Fetch.Counted.faults g.Q.Shard.Counted.faults g.Q.Target.Counted.faults g.Q.Shard.Shard.told g.Q.Target.Target.told in
     let n = g.S.Counted.faults c.store_one.new.shard in
     let files = (g.S.Shard.told c.args.shard.now).files in
-    passed_on c.from_residual-in_err-push.result (Shown e n files s new c.args.ticket) (Step Memory) c.from_residual-in_err-push.ensures.1 (memory_shown e n files s new c.args.ticket)
+    passed_on c.from_residual-in_err-push.result (Shown e n files s new c.args.job.now.ticket) (Step Memory) c.from_residual-in_err-push.ensures.1 (memory_shown e n files s new c.args.job.now.ticket)
 
 pub store_one-requires-clause-listed : goal.store_one-requires-clause-listed
 store_one-requires-clause-listed g c κs within =

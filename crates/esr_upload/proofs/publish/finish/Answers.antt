@@ -21,16 +21,16 @@ returns-in-None-clause-trouble g c =
     let ahead = c.requires.ahead (no_files c.new.result (are_snap_files [] c.args.entries) c.new.ensures.exact c.in-None.is) in
     let found = c.ahead.ensures in
     let e = evidence g.Q.Stage.Counted.faults g.Q.Fetch.Counted.faults g.Q.Shard.Counted.faults g.Q.Target.Counted.faults g.Q.Shard.Shard.told g.Q.Target.Target.told in
-    subst (λ (why : Why). Shown e 0 (Some []) g.Q.Desk.start (g.Q.Desk.seen c.args.desk.now) c.args.ticket (Found why)) (sym found.4) (ahead.shown found.0 found.1 found.2 found.3, tt)
+    subst (λ (why : Why). Shown e 0 (Some []) g.Q.Desk.start (g.Q.Desk.seen c.args.desk.now) c.args.job.now.ticket (Found why)) (sym found.4) (ahead.shown found.0 found.1 found.2 found.3, tt)
 
 pub returns-in-None-clause-went : goal.returns-in-None-clause-went
-returns-in-None-clause-went g c = went_none g.Q.Desk.start (g.Q.Desk.seen c.args.desk.now) c.args.ticket
+returns-in-None-clause-went g c = went_none g.Q.Desk.start (g.Q.Desk.seen c.args.desk.now) c.args.job.now.ticket
 
 pub returns-in-None-clause-grew : goal.returns-in-None-clause-grew
-returns-in-None-clause-grew g c = grew_by_none g.Q.Desk.start c.args.ticket (g.Q.Desk.seen c.args.desk.now)
+returns-in-None-clause-grew g c = grew_by_none g.Q.Desk.start c.args.job.now.ticket (g.Q.Desk.seen c.args.desk.now)
 
 pub returns-in_err-index-in-Some-clause-went : goal.returns-in_err-index-in-Some-clause-went
-returns-in_err-index-in-Some-clause-went g c = if_err c.from_residual.result (went_none g.Q.Desk.start (g.Q.Desk.seen c.args.desk.now) c.args.ticket)
+returns-in_err-index-in-Some-clause-went g c = if_err c.from_residual.result (went_none g.Q.Desk.start (g.Q.Desk.seen c.args.desk.now) c.args.job.now.ticket)
 
 pub returns-in_err-index-in-Some-clause-grew : goal.returns-in_err-index-in-Some-clause-grew
-returns-in_err-index-in-Some-clause-grew g c = grew_by_none g.Q.Desk.start c.args.ticket (g.Q.Desk.seen c.args.desk.now)
+returns-in_err-index-in-Some-clause-grew g c = grew_by_none g.Q.Desk.start c.args.job.now.ticket (g.Q.Desk.seen c.args.desk.now)

@@ -18,18 +18,18 @@ use Rattle.esr_upload.proofs.unit.store.Goals as goal
 pub finish-requires-clause-drew : goal.finish-requires-clause-drew
 finish-requires-clause-drew g c κs within =
     let s = g.Q.Desk.start in
-    let who = c.args.job.ticket in
+    let who = c.args.job.now.ticket in
     let count : c.args.draft.first.number + c.from.result ≡ c.args.draft.first.number + new_count c.args.draft.plans.now = ap (λ (n : ℕ). c.args.draft.first.number + n) (c.from.ensures ∙ c.count_new.ensures.count) in
-    drew_last s (g.S.Shard.told c.args.shard.now).files (g.S.Shard.told c.args.shard.now).listed c.args.job.at c.args.job.uuid c.args.draft.base.now c.args.draft.plans.now c.args.job.part_size c.args.draft.first.number c.in_ok-entries.entries
-    (ticket_of s (g.Q.Desk.seen c.args.desk.now) who) (ticket_of s (g.Q.Desk.seen c.store_files.new.desk) who) c.requires.drawn c.requires.size c.requires.sized.0 c.in_ok-entries.ensures.stored
-    (c.args.draft.first.number + c.from.result) count
+    drew_last s (g.S.Shard.told c.args.shard.now).files (g.S.Shard.told c.args.shard.now).listed c.args.job.now.at c.args.job.now.uuid
+    c.args.draft.base.now c.args.draft.plans.now c.args.job.now.part_size c.args.draft.first.number c.in_ok-entries.entries
+    (ticket_of s (g.Q.Desk.seen c.args.desk.now) who) (ticket_of s (g.Q.Desk.seen c.store_files.new.desk) who) c.requires.drawn c.requires.size c.requires.sized.0 c.in_ok-entries.ensures.stored (c.args.draft.first.number + c.from.result) count
 
 pub store_files-requires-clause-below : goal.store_files-requires-clause-below
-store_files-requires-clause-below g c κs within = none_below (ticket_of g.Q.Desk.start (g.Q.Desk.seen c.args.desk.now) c.args.job.ticket) c.args.draft.first.number c.requires.drawn.unnoted
+store_files-requires-clause-below g c κs within = none_below (ticket_of g.Q.Desk.start (g.Q.Desk.seen c.args.desk.now) c.args.job.now.ticket) c.args.draft.first.number c.requires.drawn.unnoted
 
 pub finish-requires-clause-files : goal.finish-requires-clause-files
 finish-requires-clause-files g c κs within =
-    let t = ticket_of g.Q.Desk.start (g.Q.Desk.seen c.store_files.new.desk) c.args.job.ticket in
+    let t = ticket_of g.Q.Desk.start (g.Q.Desk.seen c.store_files.new.desk) c.args.job.now.ticket in
     let count : c.args.draft.first.number + c.from.result ≡ c.args.draft.first.number + new_count c.args.draft.plans.now = ap (λ (n : ℕ). c.args.draft.first.number + n) (c.from.ensures ∙ c.count_new.ensures.count) in
     subst (λ (n : ℕ). AreBelow t n) (sym count) c.in_ok-entries.ensures.below
 
@@ -39,19 +39,19 @@ store_files-requires-clause-told g c κs within = record { source_is = c.require
 pub finish-requires-clause-ahead : goal.finish-requires-clause-ahead
 finish-requires-clause-ahead g c κs within =
     let s = g.Q.Desk.start in
-    let who = c.args.job.ticket in
+    let who = c.args.job.now.ticket in
     let told = g.S.Shard.told c.args.shard.now in
     let mid = g.Q.Desk.seen c.store_files.new.desk in
-    λ refused. base_ahead s told.files told.listed c.args.job.at c.args.job.uuid c.args.draft.base.now c.args.draft.plans.now c.args.job.part_size c.args.draft.first.number c.in_ok-entries.entries
+    λ refused. base_ahead s told.files told.listed c.args.job.now.at c.args.job.now.uuid c.args.draft.base.now c.args.draft.plans.now c.args.job.now.part_size c.args.draft.first.number c.in_ok-entries.entries
     (ticket_of s (g.Q.Desk.seen c.args.desk.now) who) (ticket_of s mid who) c.requires.drawn c.requires.size c.requires.sized.0 c.in_ok-entries.ensures.stored mid who refl c.requires.sized.1 refused
-    c.args.job.base c.requires.base (fetched_later s (g.Q.Desk.seen c.args.desk.now) mid who c.args.job.at.index.number c.args.job.at.number c.args.job.base c.store_files.ensures.went.grew c.requires.fetched)
+    c.args.job.now.base c.requires.base (fetched_later s (g.Q.Desk.seen c.args.desk.now) mid who c.args.job.now.at.index.number c.args.job.now.at.number c.args.job.now.base c.store_files.ensures.went.grew c.requires.fetched)
 
 pub finish-requires-clause-ready : goal.finish-requires-clause-ready
 finish-requires-clause-ready g c κs within =
     let s = g.Q.Desk.start in
-    let who = c.args.job.ticket in
+    let who = c.args.job.now.ticket in
     let count : c.args.draft.first.number + c.from.result ≡ c.args.draft.first.number + new_count c.args.draft.plans.now = ap (λ (n : ℕ). c.args.draft.first.number + n) (c.from.ensures ∙ c.count_new.ensures.count) in
-    ready s (g.S.Shard.told c.args.shard.now).files (g.S.Shard.told c.args.shard.now).listed c.args.job.at c.args.job.uuid c.args.draft.base.now c.args.draft.plans.now c.args.job.part_size c.args.draft.first.number c.in_ok-entries.entries
+    ready s (g.S.Shard.told c.args.shard.now).files (g.S.Shard.told c.args.shard.now).listed c.args.job.now.at c.args.job.now.uuid c.args.draft.base.now c.args.draft.plans.now c.args.job.now.part_size c.args.draft.first.number c.in_ok-entries.entries
     (ticket_of s (g.Q.Desk.seen c.args.desk.now) who) (ticket_of s (g.Q.Desk.seen c.store_files.new.desk) who) c.requires.drawn c.requires.size c.requires.sized.0 c.in_ok-entries.ensures.stored
     (c.args.draft.first.number + c.from.result) c.sum_of.result count c.sum_of.ensures
 
@@ -61,16 +61,16 @@ returns-clause-ok g c =
     let old = g.Q.Desk.seen c.args.desk.now in
     let mid = g.Q.Desk.seen c.store_files.new.desk in
     let new = g.Q.Desk.seen c.finish.new.desk in
-    ok_on c.finish.result (done_on s old mid new c.args.job.ticket c.store_files.ensures.went) c.finish.ensures.ok
+    ok_on c.finish.result (done_on s old mid new c.args.job.now.ticket c.store_files.ensures.went) c.finish.ensures.ok
 
 pub returns-clause-went : goal.returns-clause-went
 returns-clause-went g c =
-    err_on c.finish.result (went_on g.Q.Desk.start (g.Q.Desk.seen c.args.desk.now) (g.Q.Desk.seen c.store_files.new.desk) (g.Q.Desk.seen c.finish.new.desk) c.args.job.ticket c.store_files.ensures.went) c.finish.ensures.went
+    err_on c.finish.result (went_on g.Q.Desk.start (g.Q.Desk.seen c.args.desk.now) (g.Q.Desk.seen c.store_files.new.desk) (g.Q.Desk.seen c.finish.new.desk) c.args.job.now.ticket c.store_files.ensures.went) c.finish.ensures.went
 
 pub returns-clause-trouble : goal.returns-clause-trouble
 returns-clause-trouble g c =
     let s = g.Q.Desk.start in
-    let who = c.args.job.ticket in
+    let who = c.args.job.now.ticket in
     let new = g.Q.Desk.seen c.finish.new.desk in
     let e = evidence g.Q.Stage.Counted.faults g.Q.Fetch.Counted.faults g.Q.Shard.Counted.faults g.Q.Target.Counted.faults g.Q.Shard.Shard.told g.Q.Target.Target.told in
     let n = g.S.Counted.faults c.store_files.new.shard in
@@ -79,7 +79,7 @@ returns-clause-trouble g c =
 
 pub returns-clause-grew : goal.returns-clause-grew
 returns-clause-grew g c =
-    grew_by_on g.Q.Desk.start c.args.job.ticket (g.Q.Desk.seen c.args.desk.now) (g.Q.Desk.seen c.store_files.new.desk) (g.Q.Desk.seen c.finish.new.desk) c.store_files.ensures.went.grew c.finish.ensures.grew
+    grew_by_on g.Q.Desk.start c.args.job.now.ticket (g.Q.Desk.seen c.args.desk.now) (g.Q.Desk.seen c.store_files.new.desk) (g.Q.Desk.seen c.finish.new.desk) c.store_files.ensures.went.grew c.finish.ensures.grew
 
 pub finish-requires-clause-mine : goal.finish-requires-clause-mine
-finish-requires-clause-mine g c κs within = subst (λ (calls : List Call). HasTaken calls c.args.job.ticket) (sym c.store_files.ensures.calls) c.requires.mine
+finish-requires-clause-mine g c κs within = subst (λ (calls : List Call). HasTaken calls c.args.job.now.ticket) (sym c.store_files.ensures.calls) c.requires.mine

@@ -5,16 +5,16 @@ use Rattle.esr_solo.proofs.Calls.{calls_client}
 use Rattle.esr_solo.proofs.client.SoloClient.end_check.Goals as goal
 
 pub returns-then-self-eq0-clause-step : goal.returns-then-self-eq0-clause-step
-returns-then-self-eq0-clause-step g c = spent g.K.Told.start c.self.inside.repo c.args.self.now 0 c.self.inside.left c.self.view_is c.is_legal.ensures c.self.invariant.0 c.if-self-eq0.true
+returns-then-self-eq0-clause-step g c = spent g.K.Told.start c.self.inside.repo c.args.self.now 0 c.self.inside.left c.self.view_is c.self.invariant.8 c.self.invariant.0 c.if-self-eq0.true
 
 pub invariant_of-self : goal.invariant_of-self
 invariant_of-self g c =
-    keeps _ g.K.Told.start c.self.inside.repo c.end_check-answer.new.repo 0 c.self.inside.faults.items c.self.inside.targets.items c.self.inside.left c.turns.result _ c.self.invariant c.if-self-eq0.false
-    (ReadStep (CheckedAll c.args.snapshots c.args.blobs)) _ c.end_check-answer.result c.turns.ensures (λ x why e d. cc) (λ x before who. refl) (λ name e no_metadata noted. cc) c.end_check-answer.ensures.step tt tt
+    keeps _ g.K.Told.start c.self.inside.repo c.end_check-answer.new.repo 0 c.self.inside.faults.items c.self.inside.targets.items c.self.inside.left c.spend.new.left _ c.self.invariant c.if-self-eq0.false
+    (ReadStep (CheckedAll c.args.snapshots c.args.blobs)) _ c.end_check-answer.result c.spend.ensures.left (λ x why e d. cc) (λ x before who. refl) (λ name e no_metadata noted. cc) c.end_check-answer.ensures.step tt tt
 
 pub returns-clause-step : goal.returns-clause-step
 returns-clause-step g c = outcome g.K.Told.start c.self.inside.repo c.args.self.now c.end_check-answer.new.repo 0
-    (ReadStep (CheckedAll c.args.snapshots c.args.blobs)) _ c.end_check-answer.result c.self.inside.left c.self.view_is c.is_legal.ensures c.self.invariant.0 c.if-self-eq0.false c.grounds.ensures c.end_check-answer.ensures.step
+    (ReadStep (CheckedAll c.args.snapshots c.args.blobs)) _ c.end_check-answer.result c.self.inside.left c.self.view_is c.self.invariant.8 c.self.invariant.0 c.if-self-eq0.false c.spend.ensures.grounds c.end_check-answer.ensures.step
 
 pub returns-clause-calls : goal.returns-clause-calls
 returns-clause-calls g c = calls_client g.K.Told.start c.self.inside.repo c.args.self.now c.end_check-answer.new.repo (ReadStep (CheckedAll c.args.snapshots c.args.blobs)) _ c.end_check-answer.result c.self.view_is c.end_check-answer.ensures.step

@@ -9,10 +9,10 @@ use Rattle.esr_solo.proofs.Stepping.{waited_as, outcome, spent, keeps_target}
 use Rattle.esr_solo.proofs.desk.SoloDesk.end_restore.Goals as goal
 
 pub returns-then-self-eq0-clause-step : goal.returns-then-self-eq0-clause-step
-returns-then-self-eq0-clause-step g c = spent g.K.Told.start c.self.inside.repo c.args.self.now c.args.done.ticket c.self.inside.left c.self.view_is c.is_legal.ensures c.self.invariant.0 c.if-self-eq0.true
+returns-then-self-eq0-clause-step g c = spent g.K.Told.start c.self.inside.repo c.args.self.now c.args.done.ticket c.self.inside.left c.self.view_is c.self.invariant.8 c.self.invariant.0 c.if-self-eq0.true
 
 pub returns-then-is_err-clause-step : goal.returns-then-is_err-clause-step
-returns-then-is_err-clause-step g c = (waited_as g.K.Told.start c.self.inside.repo c.args.self.now c.args.done.ticket c.self.view_is c.is_legal.ensures, tt)
+returns-then-is_err-clause-step g c = (waited_as g.K.Told.start c.self.inside.repo c.args.self.now c.args.done.ticket c.self.view_is c.self.invariant.8, tt)
 
 pub invariant_of-self : goal.invariant_of-self
 invariant_of-self g c = (
@@ -24,19 +24,20 @@ invariant_of-self g c = (
   c.self.invariant.5,
   c.self.invariant.6,
   c.self.invariant.7,
+  c.self.invariant.8,
 )
 
 pub invariant_of-self-2 : goal.invariant_of-self-2
 invariant_of-self-2 g c =
-    keeps_target _ g.K.Told.start c.self.inside.repo c.end_restore-answer.new.repo c.args.done.ticket c.self.inside.faults.items c.self.inside.targets.items c.self.inside.left c.turns.result 1099511627776 c.self.invariant c.if-self-eq0.false
+    keeps_target _ g.K.Told.start c.self.inside.repo c.end_restore-answer.new.repo c.args.done.ticket c.self.inside.faults.items c.self.inside.targets.items c.self.inside.left c.spend.new.left 1099511627776 c.self.invariant c.if-self-eq0.false
     c.args.self.now c.args.done.files c.args.done.bytes c.end_restore-answer.result c.reserve.new.self.items c.list.new.targets.items
-    c.args.done.target c.turns.ensures c.self.view_is c.requires.filled c.reserve.ensures.items c.list.ensures.items c.end_restore-answer.ensures.step
+    c.args.done.target c.spend.ensures.left c.self.view_is c.requires.filled c.reserve.ensures.items c.list.ensures.items c.end_restore-answer.ensures.step
 
 pub returns-clause-step : goal.returns-clause-step
 returns-clause-step g c =
     subst (λ (r : Result Unit StepRefusal). Outcome g.K.Told.start c.args.self.now c.end_restore-answer.new.repo c.args.done.ticket (ReadStep (RestoredShard c.args.done.files c.args.done.bytes)) (λ _. HasEnded) r) (sym c.list.ensures.answer)
     (outcome g.K.Told.start c.self.inside.repo c.args.self.now c.end_restore-answer.new.repo c.args.done.ticket (ReadStep (RestoredShard c.args.done.files c.args.done.bytes))
-    (λ _. HasEnded) c.end_restore-answer.result c.self.inside.left c.self.view_is c.is_legal.ensures c.self.invariant.0 c.if-self-eq0.false c.grounds.ensures c.end_restore-answer.ensures.step)
+    (λ _. HasEnded) c.end_restore-answer.result c.self.inside.left c.self.view_is c.self.invariant.8 c.self.invariant.0 c.if-self-eq0.false c.spend.ensures.grounds c.end_restore-answer.ensures.step)
 
 pub returns-clause-own : goal.returns-clause-own
 returns-clause-own g c =

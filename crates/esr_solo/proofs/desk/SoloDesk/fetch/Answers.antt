@@ -8,18 +8,18 @@ use Rattle.esr_solo.proofs.Calls.{calls_same, calls_hand}
 use Rattle.esr_solo.proofs.desk.SoloDesk.fetch.Goals as goal
 
 pub returns-then-self-eq0-clause-step : goal.returns-then-self-eq0-clause-step
-returns-then-self-eq0-clause-step g c = spent g.K.Told.start c.self.inside.repo c.args.self.now c.args.who.number c.self.inside.left c.self.view_is c.is_legal.ensures c.self.invariant.0 c.if-self-eq0.true
+returns-then-self-eq0-clause-step g c = spent g.K.Told.start c.self.inside.repo c.args.self.now c.args.who.number c.self.inside.left c.self.view_is c.self.invariant.8 c.self.invariant.0 c.if-self-eq0.true
 
 pub invariant_of-self : goal.invariant_of-self
 invariant_of-self g c =
-    keeps _ g.K.Told.start c.self.inside.repo c.fetch-answer.new.repo c.args.who.number c.self.inside.faults.items c.self.inside.targets.items c.self.inside.left c.turns.result _ c.self.invariant c.if-self-eq0.false
-    (fetch_step c.args.who.hand (name_of c.args.name)) fetch_reply c.fetch-answer.result c.turns.ensures (λ o. fetch_reports c.args.who.hand (name_of c.args.name) (fetch_reply o))
+    keeps _ g.K.Told.start c.self.inside.repo c.fetch-answer.new.repo c.args.who.number c.self.inside.faults.items c.self.inside.targets.items c.self.inside.left c.spend.new.left _ c.self.invariant c.if-self-eq0.false
+    (fetch_step c.args.who.hand (name_of c.args.name)) fetch_reply c.fetch-answer.result c.spend.ensures.left (λ o. fetch_reports c.args.who.hand (name_of c.args.name) (fetch_reply o))
     (λ o. fetch_restores c.args.who.hand (name_of c.args.name) o) (fetch_commits c.args.who.hand g.K.Told.start c.self.inside.repo c.args.who.number (name_of c.args.name)) c.fetch-answer.ensures.step
     (fetch_tests c.args.who.hand g.K.Told.start c.self.inside.repo c.fetch-answer.new.repo (name_of c.args.name) c.fetch-answer.result) (fetch_removes c.args.who.hand c.self.inside.repo c.args.who.number (name_of c.args.name))
 
 pub returns-clause-step : goal.returns-clause-step
 returns-clause-step g c = outcome g.K.Told.start c.self.inside.repo c.args.self.now c.fetch-answer.new.repo c.args.who.number
-    (fetch_step c.args.who.hand (name_of c.args.name)) fetch_reply c.fetch-answer.result c.self.inside.left c.self.view_is c.is_legal.ensures c.self.invariant.0 c.if-self-eq0.false c.grounds.ensures c.fetch-answer.ensures.step
+    (fetch_step c.args.who.hand (name_of c.args.name)) fetch_reply c.fetch-answer.result c.self.inside.left c.self.view_is c.self.invariant.8 c.self.invariant.0 c.if-self-eq0.false c.spend.ensures.grounds c.fetch-answer.ensures.step
 
 pub returns-clause-calls : goal.returns-clause-calls
 returns-clause-calls g c = calls_hand c.args.who.hand g.K.Told.start c.self.inside.repo c.args.self.now c.fetch-answer.new.repo c.args.who.number

@@ -7,17 +7,17 @@ use Rattle.esr_solo.proofs.Calls.{calls_ticket}
 use Rattle.esr_solo.proofs.desk.SoloDesk.remove.Goals as goal
 
 pub returns-then-self-eq0-clause-step : goal.returns-then-self-eq0-clause-step
-returns-then-self-eq0-clause-step g c = spent g.K.Told.start c.self.inside.repo c.args.self.now c.args.ticket c.self.inside.left c.self.view_is c.is_legal.ensures c.self.invariant.0 c.if-self-eq0.true
+returns-then-self-eq0-clause-step g c = spent g.K.Told.start c.self.inside.repo c.args.self.now c.args.ticket c.self.inside.left c.self.view_is c.self.invariant.8 c.self.invariant.0 c.if-self-eq0.true
 
 pub invariant_of-self : goal.invariant_of-self
 invariant_of-self g c =
-    keeps _ g.K.Told.start c.self.inside.repo c.remove-answer.new.repo c.args.ticket c.self.inside.faults.items c.self.inside.targets.items c.self.inside.left c.turns.result _ c.self.invariant c.if-self-eq0.false
-    (PruneStep (RemoveDoomed (map name_of c.args.names.now))) _ c.remove-answer.result c.turns.ensures (λ x why e d. cc) (λ x before who. refl) (λ name e no_metadata noted. cc) c.remove-answer.ensures.step tt
+    keeps _ g.K.Told.start c.self.inside.repo c.remove-answer.new.repo c.args.ticket c.self.inside.faults.items c.self.inside.targets.items c.self.inside.left c.spend.new.left _ c.self.invariant c.if-self-eq0.false
+    (PruneStep (RemoveDoomed (map name_of c.args.names.now))) _ c.remove-answer.result c.spend.ensures.left (λ x why e d. cc) (λ x before who. refl) (λ name e no_metadata noted. cc) c.remove-answer.ensures.step tt
     (removal_new g.K.Told.start c.self.inside.repo c.args.self.now c.args.ticket (map name_of c.args.names.now) c.self.view_is c.requires.mine.some c.requires.new)
 
 pub returns-clause-step : goal.returns-clause-step
 returns-clause-step g c = outcome g.K.Told.start c.self.inside.repo c.args.self.now c.remove-answer.new.repo c.args.ticket
-    (PruneStep (RemoveDoomed (map name_of c.args.names.now))) _ c.remove-answer.result c.self.inside.left c.self.view_is c.is_legal.ensures c.self.invariant.0 c.if-self-eq0.false c.grounds.ensures c.remove-answer.ensures.step
+    (PruneStep (RemoveDoomed (map name_of c.args.names.now))) _ c.remove-answer.result c.self.inside.left c.self.view_is c.self.invariant.8 c.self.invariant.0 c.if-self-eq0.false c.spend.ensures.grounds c.remove-answer.ensures.step
 
 pub returns-clause-calls : goal.returns-clause-calls
 returns-clause-calls g c = calls_ticket g.K.Told.start c.self.inside.repo c.args.self.now c.remove-answer.new.repo c.args.ticket

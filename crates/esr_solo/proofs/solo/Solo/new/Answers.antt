@@ -19,4 +19,5 @@ invariant_of-result g c = (
   c.numbers.ensures.none,
   begins_tested g.K.Told.start c.args.repo c.requires,
   begins_removed c.args.repo c.requires,
+  c.is_legal.ensures,
 )

@@ -1,0 +1,11 @@
+pub mod CallerSteps
+pub mod Asks
+pub mod Elections
+pub mod AskedDeletes
+pub mod AskedCleanups
+pub mod Accepts
+pub mod Restores
+pub mod Clones
+pub mod Taken
+pub mod Verifying
+pub mod Checks
