@@ -114,10 +114,8 @@ module _ (ops : List (ℕ × Op)) (deletes : List (ℕ × Deletion)) (p : Plan) 
 
   may_by : (name : Bytes) (cleanup user : Option ℕ) (full : Bool) → open_cleanup deletes ≡ cleanup → name_user root ops name ≡ user → not (nat_lt (length ops + length deletes) 1000) ≡ full
       → ◌≡◌ {A = Option Refusal} None (first_refusal cleanup user full) → MayAccept w name
-  may_by name (Some d) user full a b c e = absurd (none-some _ e)
-  may_by name None (Some uuid) full a b c e = absurd (none-some _ e)
-  may_by name None None true a b c e = absurd (none-some _ e)
   may_by name None None false a b c e = record { no_cleanup = no_cleanup a; unused = unused name b; room = room_is c }
+  may_by name cleanup user full a b c e = absurd (none-some _ e)
 
   pub may_accept : (name : Bytes) → ◌≡◌ {A = Option Refusal} None (first_refusal (open_cleanup deletes) (name_user root ops name) (not (nat_lt (length ops + length deletes) 1000))) → MayAccept w name
   may_accept name e = may_by name _ _ _ refl refl refl e

@@ -89,9 +89,8 @@ module _ (ops : List (ℕ × Op)) (deletes : List (ℕ × Deletion)) (p : Plan) 
 
   pub may_name : (name : Bytes) (cleanup : Option ℕ) (user : Option Id) → cleanup ≡ open_cleanup deletes → option_map number_of user ≡ name_user root ops name → ◌≡◌ {A = Option Refusal} None (name_refusal cleanup user)
       → MayName w name
-  may_name name (Some op) user a b e = absurd (none-some _ e)
-  may_name name None (Some uuid) a b e = absurd (none-some _ e)
   may_name name None None a b e = record { no_cleanup = no_cleanup ops deletes p root term next h w is (sym a); unused = unused ops deletes p root term next h w is name (sym b) }
+  may_name name cleanup user a b e = absurd (none-some _ e)
 
   pub source_listed : (source : Bytes) (found : Option Id) → option_map number_of found ≡ snap_uuid root.snapshots source → (uuid : Id) → found ≡ Some uuid → IsListed w source uuid.number
   source_listed source found found_is uuid e = is_listed w root is.root_is source uuid.number (sym found_is ∙ ap (option_map number_of) e)
@@ -119,9 +118,8 @@ module _ (ops : List (ℕ × Op)) (deletes : List (ℕ × Deletion)) (completed 
 
   pub may_clone : (doomed missing : Option ℕ) → doomed ≡ deleting deletes uuid → missing ≡ position (lacks_index root.indices uuid) names → ◌≡◌ {A = Option Refusal} None (source_refusal doomed missing)
       → MayClone w source name names uuid
-  may_clone (Some d) missing a b e = absurd (none-some _ e)
-  may_clone None (Some i) a b e = absurd (none-some _ e)
   may_clone None None a b e = record {
     copies = record { named = may; listed = there; spared = is_spared ops deletes completed seats next_op restores p view h w is.plan uuid (sym a) };
     there = all_there w root is.root_is uuid names (sym b);
   }
+  may_clone doomed missing a b e = absurd (none-some _ e)

@@ -30,9 +30,8 @@ use Rattle.esr_accept.proofs.Finds.{same_true}
 -- ---- a clone as it begins
 
 nowhere : (n i : ℕ) → place_or_none (slice_get (replicate n []) i) ≡ []
-nowhere zero i = refl
-nowhere (suc n) zero = refl
 nowhere (suc n) (suc i) = nowhere n i
+nowhere n i = refl
 
 module _ (refs : List CodeRef) (texts : List Bytes) (none : (i : ℕ) → place_or_none (slice_get texts i) ≡ []) where
   copies-from : (at : ℕ) (r : CodeRef) → slice_get refs at ≡ Some r → (first n : ℕ) → map (work_of_shard refs texts) (shards_from at r.id first n) ≡ map copied_shard (numbered (ref_of_code r) first n)

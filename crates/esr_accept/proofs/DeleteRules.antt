@@ -228,8 +228,7 @@ module _ (w : World) (names : List Bytes) (p : Plan) where
 
 neither : (a b : Option ℕ) → not (is_joined a b) ≡ true → (a ≡ None) × (b ≡ None)
 neither None None e = (refl, refl)
-neither None (Some d) e = absurd (true≢false (sym e))
-neither (Some d) b e = absurd (true≢false (sym e))
+neither a b e = absurd (true≢false (sym e))
 
 one_of : (a b : Option ℕ) (n : ℕ) → (not (is_joined a b) && not (nat_lt n 1000)) ≡ false → a ≡ None → b ≡ None → n < 1000
 one_of None None n e first second = (Decides-ltb n 1000).0 (true_from_ne_false (nat_lt n 1000) (λ past. true≢false (sym (ap not past) ∙ e)))

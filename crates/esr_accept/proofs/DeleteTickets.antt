@@ -4,7 +4,7 @@ use Rattle.std.specs.Prelude.{not, is_some}
 use Rattle.std.specs.List.{list_any}
 use Rattle.std.specs.FinMap as fin
 use Rattle.std.proofs.lemmas.Bool.{and_from, and_parts}
-use Rattle.esr_core.specs.World.{World, Op, Deletion, Work, Shard, Finalize, Deleting, Drop, Ticket}
+use Rattle.esr_core.specs.World.{World, Op, Deletion, Work, Finalize, Ticket}
 use Rattle.esr_core.specs.Deletes.{is_swap, is_unaborted}
 use Rattle.esr_core.specs.Deletes as core
 use Rattle.esr_core.specs.Laws.Maps.{entry_got, got_entry}
@@ -26,10 +26,8 @@ same_tests false true f g = g refl
 same_tests false false f g = refl
 
 pub swaps_is : (work : Work) → is_master (kind_of work) ≡ is_swap work
-swaps_is (Shard index number) = refl
 swaps_is (Finalize info results made) = refl
-swaps_is (Deleting uuids plan) = refl
-swaps_is Drop = refl
+swaps_is work = refl
 
 pub unaborted_is : (o : Option ℕ) → not (is_some o) ≡ is_unaborted o
 unaborted_is None = refl

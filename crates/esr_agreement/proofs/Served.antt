@@ -1,5 +1,5 @@
 -- The test of agreement, and what it means.
-use Rattle.std.proofs.Common.{◌≡◌, inl, inr, ℕ, zero, suc, ◌+◌, ◌<◌, Bool, true, false, ◌==◌, ◌&&◌, List, [], ◌∷◌, map, Option, Some, None, option_map, refl, sym, ap, ◌∙◌, arith}
+use Rattle.std.proofs.Common.{◌≡◌, inl, inr, ℕ, suc, ◌+◌, ◌<◌, Bool, true, false, ◌==◌, ◌&&◌, List, ◌∷◌, map, Option, Some, None, option_map, refl, sym, ap, ◌∙◌, arith}
 use Rattle.std.specs.Prelude.{is_some}
 use Rattle.std.proofs.lemmas.Bool.{cases_Bool, and_from}
 use Rattle.esr_names.specs.declared.ids.Id.{Id}
@@ -23,9 +23,8 @@ use Rattle.esr_agreement.specs.Agreement.{have_generations, are_served, are_told
 
 -- of the code's list
 pub generation_is : (gs : List (Option Id)) (k : ℕ) → at_shard (map (option_map number_of) gs) k ≡ option_map number_of (generation_in gs k)
-generation_is [] k = refl
-generation_is (g ∷ gs) zero = refl
 generation_is (g ∷ gs) (suc k) = generation_is gs k
+generation_is gs k = refl
 
 pub one_more : (gs : List (Option Id)) (k : ℕ) → have_generations (map (option_map number_of) gs) k ≡ true → is_some (generation_in gs k) ≡ true → have_generations (map (option_map number_of) gs) (k + 1) ≡ true
 one_more gs k h some =

@@ -93,8 +93,6 @@ module _ (f : Formats) (size : ℕ) (w : World) (reads : ReadTracked w) (seen : 
       le n d p = let is : d ≡ suc n = p in omega (arith, is)
 
   by_verify : (read : Read) (reply : Reply) (image : Option Image) → VerifyAllows f w read reply image → NextFound (ReadStep read) reply (caller_read f w.caller read reply image)
-  by_verify read reply image (allowed.DrawingTest im may fits same) = same_found (ReadStep DrawTest) reply (caller_read f w.caller read reply image) refl refl
-  by_verify read reply image (allowed.TestSpent im may spent same) = same_found (ReadStep DrawTest) reply (caller_read f w.caller read reply image) refl refl
   by_verify read reply image (allowed.BeginningTest name im own same) = same_found (ReadStep (BeginTest name)) reply w.caller refl refl
   by_verify read reply image (allowed.BeginTestFails name im own same) = same_found (ReadStep (BeginTest name)) reply w.caller refl refl
   by_verify read reply image (allowed.CommittingTest name bytes im own free adds) = same_found (ReadStep (CommitTest name)) reply (caller_wrote w.caller name (told_blob f im name)) refl (wrote_list w.caller name (told_blob f im name))
@@ -104,6 +102,7 @@ module _ (f : Formats) (size : ℕ) (w : World) (reads : ReadTracked w) (seen : 
   by_verify read reply image (allowed.RemoveTestsFails names im may left) = same_found (ReadStep (RemoveTests names)) reply w.caller refl refl
   by_verify read reply image (allowed.VerifyingAll im v same) = anew_found (ReadStep VerifiedAll) reply no_caller refl refl refl
   by_verify read reply image (allowed.VerifyFailing why im v same) = anew_found (ReadStep (ReadFails why)) reply no_caller refl refl refl
+  by_verify read reply image other = same_found (ReadStep DrawTest) reply (caller_read f w.caller read reply image) refl refl
 
   none_reads : (k : ℕ) (q : Reader) → k ≡ 0 → IsReading w k q → ⊥
   none_reads k q nobody reading = let some : 1 ≤ k = (reads.tracked.tickets k q reading.there).0 in let none : k ≡ 0 = nobody in omega (arith, some, none)

@@ -9,7 +9,7 @@ use Rattle.esr_core.specs.World.{World, Caller, no_caller}
 use Rattle.esr_core.specs.ReadTracked.{ReadTracked}
 use Rattle.esr_core.specs.Tracked.{Tracked}
 use Rattle.esr_core.specs.Changes.{StepChange}
-use Rattle.esr_core.specs.Entry.{Read, ReadBlob, CheckedAll, DrawTest, CommitTest, RemoveTests, VerifiedAll, ReadFails, Step, AskStep, LookStep, ReadStep, Reply, WasDone, WasFetched, WasAbsent, WasRemoved, HasEnded, Moment}
+use Rattle.esr_core.specs.Entry.{Read, ReadBlob, CheckedAll, DrawTest, CommitTest, RemoveTests, VerifiedAll, ReadFails, Step, AskStep, LookStep, ReadStep, Reply, WasDone, WasFetched, WasRemoved, HasEnded, Moment}
 use Rattle.esr_core.specs.After.{told_blob, is_heard, caller_told, caller_wrote, caller_ended, caller_read, caller_after, answered, after}
 use Rattle.esr_core.specs.Allowed as allowed
 use Rattle.esr_core.specs.Allowed.{ReadAllows, VerifyAllows, Allows, Allowed}
@@ -35,25 +35,20 @@ same_le : (n : ℕ) → 0 + n ≤ (0 + 0) + n
 same_le n = omega arith
 
 open_le : (looked : Bool) (drawn : Option ℕ) (spent : Bool) → open_by looked drawn spent ≤ 1
-open_le true drawn spent = let one : 1 ≤ 1 = omega arith in one
-open_le false (Some id) spent = let one : 1 ≤ 1 = omega arith in one
-open_le false None true = let one : 1 ≤ 1 = omega arith in one
 open_le false None false = let none : 0 ≤ 1 = omega arith in none
+open_le looked drawn spent = let one : 1 ≤ 1 = omega arith in one
 
 open_looked : (looked : Bool) (drawn : Option ℕ) (spent : Bool) → looked ≡ true → open_by looked drawn spent ≡ 1
 open_looked true drawn spent is = refl
 open_looked false drawn spent is = absurd cc
 
 open_drawn : (looked : Bool) (drawn : Option ℕ) (spent : Bool) (id : ℕ) → drawn ≡ Some id → open_by looked drawn spent ≡ 1
-open_drawn true drawn spent id is = refl
-open_drawn false (Some x) spent id is = refl
 open_drawn false None spent id is = absurd (none-some id is)
+open_drawn looked drawn spent id is = refl
 
 open_spent : (looked : Bool) (drawn : Option ℕ) (spent : Bool) → spent ≡ true → open_by looked drawn spent ≡ 1
-open_spent true drawn spent is = refl
-open_spent false (Some x) spent is = refl
-open_spent false None true is = refl
 open_spent false None false is = absurd cc
+open_spent looked drawn spent is = refl
 
 -- ---- a step
 
@@ -62,15 +57,6 @@ module _ (f : Formats) (size : ℕ) (w : World) (reads : ReadTracked w) where
   Ended reply = (reply ≡ HasEnded) × (open_of w.caller ≡ 1)
 
   by_verify : (read : Read) (reply : Reply) (image : Option Image) → VerifyAllows f w read reply image → ends_by 0 (ReadStep read) ≡ 1 → Ended reply
-  by_verify read reply image (allowed.DrawingTest im may fits same) is = absurd cc
-  by_verify read reply image (allowed.TestSpent im may spent same) is = absurd cc
-  by_verify read reply image (allowed.BeginningTest name im own same) is = absurd cc
-  by_verify read reply image (allowed.BeginTestFails name im own same) is = absurd cc
-  by_verify read reply image (allowed.CommittingTest name bytes im own new adds) is = absurd cc
-  by_verify read reply image (allowed.TestTaken name im own there) is = absurd cc
-  by_verify read reply image (allowed.CommitTestFails name bytes im own leaves) is = absurd cc
-  by_verify read reply image (allowed.RemovingTests names im may left) is = absurd cc
-  by_verify read reply image (allowed.RemoveTestsFails names im may left) is = absurd cc
   by_verify read reply image (allowed.VerifyingAll im v same) is = (refl, open_drawn w.caller.looked w.caller.drawn w.caller.spent v.id v.drawn)
   by_verify read reply image (allowed.VerifyFailing why im v same) is = (
     refl,
@@ -79,16 +65,14 @@ module _ (f : Formats) (size : ℕ) (w : World) (reads : ReadTracked w) where
         (λ (none_left : w.caller.spent ≡ true). open_spent w.caller.looked w.caller.drawn w.caller.spent none_left)
         v,
   )
+  by_verify read reply image other is = absurd cc
 
   by_read : (k : ℕ) (read : Read) (reply : Reply) (image : Option Image) → k ≡ 0 → ReadAllows f w k read reply image → ends_by 0 (ReadStep read) ≡ 1 → Ended reply
-  by_read k read reply image nobody (allowed.ReadFound j name im stored by told) is = absurd cc
-  by_read k read reply image nobody (allowed.ReadMissing j name im stored by told) is = absurd cc
-  by_read k read reply image nobody (allowed.ReadFault j name im stored by) is = absurd cc
-  by_read k read reply image nobody (allowed.RestoringShard j files bytes im q reading told) is = absurd cc
   by_read k read reply image nobody (allowed.ReaderFailing j why im q reading) is =
       let some : 1 ≤ k = (reads.tracked.tickets k q reading.there).0 in let none : k ≡ 0 = nobody in absurd (omega (arith, some, none))
   by_read k read reply image nobody (allowed.CheckingAll snapshots blobs im c) is = (refl, open_looked w.caller.looked w.caller.drawn w.caller.spent c.is_open.looked)
   by_read k read reply image nobody (allowed.CheckFailing why im o) is = (refl, open_looked w.caller.looked w.caller.drawn w.caller.spent o.looked)
+  by_read k read reply image nobody other is = absurd cc
 
   by_step : (who : ℕ) (read : Read) (reply : Reply) (image : Option Image) → who ≡ 0 → Allows f size w who (ReadStep read) reply image → ends_by 0 (ReadStep read) ≡ 1 → Ended reply
   by_step who read reply image nobody (allowed.Verifying r rep im h) is = by_verify read reply image h is
@@ -121,12 +105,8 @@ module _ (f : Formats) (size : ℕ) (w : World) (reads : ReadTracked w) where
       let c : Caller = caller_read f w.caller DrawTest reply image in
       more_le (open_of c) (open_of w.caller) (open_le c.looked c.drawn c.spent)
   read_le (ReadBlob name) WasFetched image a = kept_le (open_of (caller_told w.caller name (told_blob f image name))) (open_of w.caller) (told_open w.caller name (told_blob f image name))
-  read_le (ReadBlob name) WasAbsent image a = same_le (open_of w.caller)
-  read_le (ReadBlob name) reply image a = same_le (open_of w.caller)
   read_le (CommitTest name) WasDone image a = kept_le (open_of (caller_wrote w.caller name (told_blob f image name))) (open_of w.caller) (wrote_open w.caller name (told_blob f image name))
-  read_le (CommitTest name) reply image a = same_le (open_of w.caller)
   read_le (RemoveTests names) WasRemoved image a = same_le (open_of w.caller)
-  read_le (RemoveTests names) reply image a = same_le (open_of w.caller)
   read_le read reply image a = same_le (open_of w.caller)
 
   asked_le : (b : Bool) → 0 + open_of (if b then no_caller else w.caller) ≤ (0 + 0) + open_of w.caller

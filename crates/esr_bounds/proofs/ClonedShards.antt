@@ -13,7 +13,7 @@ use Rattle.esr_core.specs.Restores.{AreOnce, AreApart}
 use Rattle.esr_core.specs.Entry.{AskedIndex, CloneOf, Snapshot, Clone, DeleteSnapshots, Restore, Cleanup, Step, AskStep, Reply, Moment}
 use Rattle.esr_core.specs.After.{ref_by_name, and_ref, named_refs, chosen_refs, known_id, next_by, refs_from, copied_shard, after}
 use Rattle.esr_core.specs.Allowed as allowed
-use Rattle.esr_core.specs.Allowed.{AcceptsClone, CloneAllows, Allows}
+use Rattle.esr_core.specs.Allowed.{AcceptsClone, Allows}
 use Rattle.esr_core.specs.History.{world_from, IsLegal, AllKnown, AreTold}
 use Rattle.esr_core.specs.Laws.CloneOps.{by_name, named_is, chosen_among}
 use Rattle.esr_core.specs.Laws.Histories.{legal_parts, told_parts}
@@ -61,15 +61,11 @@ ids_once (r ∷ refs) h = ((λ had. let q = Has-mapped ref_id refs r.id had in h
 
 -- ---- a clone that takes was accepted
 
-by_clone : (f : Formats) (w : World) (source name : Bytes) (names : List Bytes) (moment : ℕ) (taken : CloneOf) (reply : Reply) (image : Option Image) → CloneAllows f w source name names moment (Some taken) reply image
-    → (o : ℕ) × AcceptsClone f w source name names moment o taken image
-by_clone f w source name names moment taken reply image (allowed.OpeningClone t o im acc) = (o, acc)
-by_clone f w source name names moment taken reply image (allowed.CloneFault t im acc) = (w.next_op, acc)
-
 by_ask : (f : Formats) (size : ℕ) (w : World) (who : ℕ) (source name : Bytes) (names : List Bytes) (moment : ℕ) (taken : CloneOf) (reply : Reply) (image : Option Image)
     → Allows f size w who (AskStep (Clone source name names moment (Some taken))) reply image → (o : ℕ) × AcceptsClone f w source name names moment o taken image
-by_ask f size w who source name names moment taken reply image (allowed.AskingClone s n ns time t rep im h same) = by_clone f w source name names moment taken reply image h
-by_ask f size w who source name names moment taken reply image (allowed.Cleaning command d x im recorded untaken there clean same) = absurd untaken
+by_ask f size w who source name names moment taken reply image (allowed.OpeningClone s n ns time o t im acc same) = (o, acc)
+by_ask f size w who source name names moment taken reply image (allowed.AskCloneFails s n ns time t im acc same) = (w.next_op, acc)
+by_ask f size w who source name names moment taken reply image (allowed.Ruled command refusal im (allowed.Cleaning c d x recorded untaken there clean) same) = absurd untaken
 
 -- ---- what is asked is among what there was first and what snapshots ask for
 
@@ -172,10 +168,6 @@ length_refs w next (a ∷ indices) = ap suc (length_refs w (next_by (known_id w 
 
 length_asked_ids : (w : World) (step : Step) → length (asked_ids w (bare_step step)) ≡ indices_by (bare_step step)
 length_asked_ids w (AskStep (Snapshot name indices moment)) = length-map (refs_from w (suc w.next_id) indices) ref_id ∙ length_refs w (suc w.next_id) indices
-length_asked_ids w (AskStep (Clone source name names moment taken)) = refl
-length_asked_ids w (AskStep (DeleteSnapshots names)) = refl
-length_asked_ids w (AskStep (Restore name place)) = refl
-length_asked_ids w (AskStep Cleanup) = refl
 length_asked_ids w step = refl
 
 -- ---- sums
@@ -311,20 +303,10 @@ module _ (f : Formats) (size : ℕ) (known : AllKnown f) (laws : StepLaws f size
 
   places_old : (front back : List Moment) (m : Moment) → front ++ m ∷ back ≡ log → (step : Step) → m.entry.step ≡ step → IsOld f asked_places (first_places w.root) w front m
   places_old front back m is (AskStep (Clone source name names moment (Some taken))) step = inr (places_were front back m is source name names moment taken step)
-  places_old front back m is (AskStep (Clone source name names moment None)) step = inl (step ∙ ap bare_step (sym step))
-  places_old front back m is (AskStep (Snapshot name indices moment)) step = inl (step ∙ ap bare_step (sym step))
-  places_old front back m is (AskStep (DeleteSnapshots names)) step = inl (step ∙ ap bare_step (sym step))
-  places_old front back m is (AskStep (Restore name place)) step = inl (step ∙ ap bare_step (sym step))
-  places_old front back m is (AskStep Cleanup) step = inl (step ∙ ap bare_step (sym step))
   places_old front back m is other step = inl (step ∙ ap bare_step (sym step))
 
   ids_old : (front back : List Moment) (m : Moment) → front ++ m ∷ back ≡ log → (step : Step) → m.entry.step ≡ step → IsOld f asked_ids (first_ids w.root) w front m
   ids_old front back m is (AskStep (Clone source name names moment (Some taken))) step = inr (ids_were front back m is source name names moment taken step)
-  ids_old front back m is (AskStep (Clone source name names moment None)) step = inl (step ∙ ap bare_step (sym step))
-  ids_old front back m is (AskStep (Snapshot name indices moment)) step = inl (step ∙ ap bare_step (sym step))
-  ids_old front back m is (AskStep (DeleteSnapshots names)) step = inl (step ∙ ap bare_step (sym step))
-  ids_old front back m is (AskStep (Restore name place)) step = inl (step ∙ ap bare_step (sym step))
-  ids_old front back m is (AskStep Cleanup) step = inl (step ∙ ap bare_step (sym step))
   ids_old front back m is other step = inl (step ∙ ap bare_step (sym step))
 
   abbrev most : ℕ
@@ -336,11 +318,8 @@ module _ (f : Formats) (size : ℕ) (known : AllKnown f) (laws : StepLaws f size
   step_few : (front back : List Moment) (m : Moment) → front ++ m ∷ back ≡ log → PlacesAmong front → (step : Step) → m.entry.step ≡ step → StepFew step
   step_few front back m is among (AskStep (Clone source name names moment (Some taken))) step =
       few_more (count_of_shards taken.indices) most (shards_taken front back m is source name names moment taken step among)
-  step_few front back m is among (AskStep (Clone source name names moment None)) step = no_more 0 (1 * most)
   step_few front back m is among (AskStep (Snapshot name indices moment)) step = no_more (shards_by (AskStep (Snapshot name indices moment))) (1 * most)
-  step_few front back m is among (AskStep (DeleteSnapshots names)) step = no_more 0 (1 * most)
-  step_few front back m is among (AskStep (Restore name place)) step = no_more 0 (1 * most)
-  step_few front back m is among (AskStep Cleanup) step = no_more 0 (1 * most)
+  step_few front back m is among (AskStep other) step = no_more 0 (1 * most)
   step_few front back m is among other step = no_more 0 (0 * most)
 
   abbrev WorkFew : ℕ → Step → Type 0

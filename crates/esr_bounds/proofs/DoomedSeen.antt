@@ -16,7 +16,7 @@ use Rattle.esr_core.specs.Pruning.{doomed_as, doomed_by, dooms}
 use Rattle.esr_core.specs.Ids.{Law}
 use Rattle.esr_core.specs.Tracked.{Tracked}
 use Rattle.esr_core.specs.ReadTracked.{ReadTracked}
-use Rattle.esr_core.specs.Changes.{StepChange, NoChange, NewOp, NewDeletion, MergedDeletion, NewRestore, NewTicket, NewReader, OwnTicket, Settlement, UnitEnd, DeletionFailure, OpDrop, Election, ReaderFetch, ReaderEnd, PlainDraw, TestBlob, SwapFault, BlobsChange}
+use Rattle.esr_core.specs.Changes.{StepChange, Settlement, TestBlob, SwapFault, BlobsChange}
 use Rattle.esr_core.specs.Entry.{Read, CommitTest, SettlePruned, Prune, Step, SettleStep, ReadStep, PruneStep, Reply, Moment}
 use Rattle.esr_core.specs.After.{settled_by, settled_of, delete_settled_by, delete_settled, has_text, answered, after}
 use Rattle.esr_core.specs.Allowed as allowed
@@ -142,8 +142,7 @@ module _ (f : Formats) (w : World) (seen : List Bytes) (h : Seen seen w) (shelf 
 
   settled_keeps : (k : ℕ) (t : Ticket) (o : Option Swap) (n : Option ℕ) → Keeps (settled_by f w k t o n)
   settled_keeps k t (Some s) (Some n) name had = inl had
-  settled_keeps k t (Some s) None name had = inl had
-  settled_keeps k t None n name had = inl had
+  settled_keeps k t o n name had = inl had
 
   final_keeps : (k : ℕ) (o : Option Ticket) → Keeps (settled_of f w k o)
   final_keeps k None name had = inl had
@@ -151,8 +150,7 @@ module _ (f : Formats) (w : World) (seen : List Bytes) (h : Seen seen w) (shelf 
 
   pruned_keeps : (k : ℕ) (t : Ticket) → ((name : BlobName) → Has (dooms f t) name → Has (read_names f seen) name) → (o : Option Swap) (n : Option ℕ) → Keeps (delete_settled_by f w k t o n)
   pruned_keeps k t names (Some s) (Some n) name had = ⊎_elim (λ (new : Has (dooms f t) name). inr (names name new)) (λ (old : Has w.doomed name). inl old) (Has-either (dooms f t) w.doomed name had)
-  pruned_keeps k t names (Some s) None name had = inl had
-  pruned_keeps k t names None n name had = inl had
+  pruned_keeps k t names o n name had = inl had
 
   delete_keeps : (k : ℕ) (s : SettlesDeletion f w k) → s.t.term ≡ w.term → Keeps (delete_settled f w k (fin.get w.tickets k))
   delete_keeps k s present = subst (λ (o : Option Ticket). Keeps (delete_settled f w k o)) (sym s.may.out.there) (pruned_keeps k s.t (settle_names k s present) (swap f s.t) s.t.raised)
@@ -186,23 +184,11 @@ module _ (f : Formats) (size : ℕ) (w : World) where
   commit_verify read reply image (allowed.CommittingTest n bytes im own free adds) name is = subst (λ (x : BlobName). f.names.read (f.names.text x) ≡ Some x) (same_commit n name is) own.stored.0
   commit_verify read reply image (allowed.TestTaken n im own there) name is = subst (λ (x : BlobName). f.names.read (f.names.text x) ≡ Some x) (same_commit n name is) own.stored.0
   commit_verify read reply image (allowed.CommitTestFails n bytes im own leaves) name is = subst (λ (x : BlobName). f.names.read (f.names.text x) ≡ Some x) (same_commit n name is) own.stored.0
-  commit_verify read reply image (allowed.DrawingTest im may fits same) name is = absurd cc
-  commit_verify read reply image (allowed.TestSpent im may spent same) name is = absurd cc
-  commit_verify read reply image (allowed.BeginningTest n im own same) name is = absurd cc
-  commit_verify read reply image (allowed.BeginTestFails n im own same) name is = absurd cc
-  commit_verify read reply image (allowed.RemovingTests names im may left) name is = absurd cc
-  commit_verify read reply image (allowed.RemoveTestsFails names im may left) name is = absurd cc
-  commit_verify read reply image (allowed.VerifyingAll im v same) name is = absurd cc
-  commit_verify read reply image (allowed.VerifyFailing why im v same) name is = absurd cc
+  commit_verify read reply image other name is = absurd cc
 
   no_read : (k : ℕ) (read : Read) (reply : Reply) (image : Option Image) → ReadAllows f w k read reply image → (name : BlobName) → read ≡ CommitTest name → ⊥
   no_read k read reply image (allowed.ReadFound j n im stored by found) name is = cc
-  no_read k read reply image (allowed.ReadMissing j n im stored by gone) name is = cc
-  no_read k read reply image (allowed.ReadFault j n im stored by) name is = cc
-  no_read k read reply image (allowed.RestoringShard j files bytes im q reading done) name is = cc
-  no_read k read reply image (allowed.ReaderFailing j why im q reading) name is = cc
-  no_read k read reply image (allowed.CheckingAll snapshots count im c) name is = cc
-  no_read k read reply image (allowed.CheckFailing why im o) name is = cc
+  no_read k read reply image other name is = cc
 
   same_read : (a b : Read) → ReadStep a ≡ ReadStep b → a ≡ b
   same_read a b e = cc
@@ -217,25 +203,11 @@ module _ (f : Formats) (size : ℕ) (w : World) where
   DoomedFrom step new = (name : BlobName) → Has new.doomed name → Has w.doomed name ⊎ ((step ≡ ReadStep (CommitTest name)) ⊎ (is_settle step ≡ true))
 
   doomed_from : (who : ℕ) (step : Step) (new : World) → StepChange f w who step new → DoomedFrom step new
-  doomed_from who step new NoChange name had = inl had
-  doomed_from who step new (NewOp ask op completed next_id is rises) name had = inl had
-  doomed_from who step new (NewDeletion ask ops x aborts clean) name had = inl had
-  doomed_from who step new (MergedDeletion ask ops d x y aborts there clean failed) name had = inl had
-  doomed_from who step new (NewRestore ask r) name had = inl had
-  doomed_from who step new (NewTicket take t is ops same) name had = inl had
-  doomed_from who step new (NewReader take o r s there) name had = inl had
-  doomed_from who step new (OwnTicket t u there same is next pending up more) name had = inl had
   doomed_from who step new (Settlement settle t s n names deletes there is raised left) name had = inr (inr settle)
-  doomed_from who step new (UnitEnd t op u completed there standing same) name had = inl had
-  doomed_from who step new (DeletionFailure t x there standing) name had = inl had
-  doomed_from who step new (OpDrop drop t there) name had = inl had
-  doomed_from who step new (Election elect) name had = inl had
-  doomed_from who step new (ReaderFetch q blob bytes there) name had = inl had
-  doomed_from who step new (ReaderEnd q r state there standing) name had = inl had
-  doomed_from who step new (PlainDraw next pending up more) name had = inl had
   doomed_from who step new (TestBlob test is) name (inl e) = inr (inl (is ∙ ap (λ (n : BlobName). ReadStep (CommitTest n)) e))
   doomed_from who step new (TestBlob test is) name (inr had) = inl had
   doomed_from who step new (SwapFault swaps up change) name had = doomed_from who step up change name had
+  doomed_from who step new other name had = inl had
 
 -- ---- over a history
 

@@ -11,7 +11,7 @@ use Rattle.esr_model.specs.Delete.{PrunedShard}
 use Rattle.esr_core.specs.World.{World, Deleting, Ticket, Swap}
 use Rattle.esr_core.specs.Restores.{AreOnce}
 use Rattle.esr_core.specs.Pruning.{AreOfRoot, dooms}
-use Rattle.esr_core.specs.Entry.{AskedIndex, Snapshot, Clone, DeleteSnapshots, Restore, Cleanup, Step, AskStep, Moment}
+use Rattle.esr_core.specs.Entry.{AskedIndex, Snapshot, Clone, Step, AskStep, Moment}
 use Rattle.esr_core.specs.After.{ref_by, known_id, next_by, refs_from, pending_shards, all_pending, copied_shard, after}
 use Rattle.esr_core.specs.History.{world_from, AllKnown, AreTold}
 use Rattle.esr_core.specs.Laws.DeleteRoots.{one_found}
@@ -103,10 +103,6 @@ pub length_items : (w : World) (step : Step) → length (asked_items w step) ≡
 length_items w (AskStep (Snapshot name indices moment)) = length-map (all_pending indices (refs_from w (suc w.next_id) indices)) (item_of w.next_op None) ∙ length_asked w (suc w.next_id) indices
 length_items w (AskStep (Clone source name names moment (Some taken))) =
     length-map (map copied_shard (places taken.indices)) (item_of w.next_op (Some taken.source)) ∙ length-map (places taken.indices) copied_shard ∙ length_places taken.indices
-length_items w (AskStep (Clone source name names moment None)) = refl
-length_items w (AskStep (DeleteSnapshots names)) = refl
-length_items w (AskStep (Restore name place)) = refl
-length_items w (AskStep Cleanup) = refl
 length_items w step = refl
 
 length_all : (f : Formats) (w : World) (log : List Moment) → length (all_items f w log) ≡ shards_in log

@@ -37,34 +37,18 @@ FoundAt f seen step reply = Unit {0}
 
 found_on : (f : Formats) (a b : List Bytes) → ((text : Bytes) → Has a text → Has b text) → (step : Step) (reply : Reply) → FoundAt f a step reply → FoundAt f b step reply
 found_on f a b more (ReadStep (ReadBlob name)) WasFetched h = (h.0, more (f.names.text name) h.1)
-found_on f a b more (ReadStep (ReadBlob name)) reply h = tt
-found_on f a b more (ReadStep read) reply h = tt
 found_on f a b more step reply h = tt
 
 module _ (f : Formats) (size : ℕ) (w : World) (seen : List Bytes) (blobs : SeenBlobs seen w) where
   verify_found : (read : Read) (reply : Reply) (image : Option Image) → VerifyAllows f w read reply image → FoundAt f seen (ReadStep read) reply
   verify_found read reply image (allowed.DrawingTest im may fits same) = tt
-  verify_found read reply image (allowed.TestSpent im may spent same) = tt
-  verify_found read reply image (allowed.BeginningTest name im own same) = tt
-  verify_found read reply image (allowed.BeginTestFails name im own same) = tt
-  verify_found read reply image (allowed.CommittingTest name bytes im own free adds) = tt
-  verify_found read reply image (allowed.TestTaken name im own there) = tt
-  verify_found read reply image (allowed.CommitTestFails name bytes im own leaves) = tt
-  verify_found read reply image (allowed.RemovingTests names im may left) = tt
-  verify_found read reply image (allowed.RemoveTestsFails names im may left) = tt
-  verify_found read reply image (allowed.VerifyingAll im v same) = tt
-  verify_found read reply image (allowed.VerifyFailing why im v same) = tt
+  verify_found read reply image other = tt
 
   read_found : (k : ℕ) (read : Read) (reply : Reply) (image : Option Image) → Tells image → ReadAllows f w k read reply image → FoundAt f seen (ReadStep read) reply
   read_found k read reply image told (allowed.ReadFound j name im stored by found) =
       let there = told_is image told.0 (λ (now : Blobs). (bytes : Bytes) × (fin.get w.blobs (f.names.text name) ≡ Some bytes)) told.1 found in
       (stored, blobs (f.names.text name) there.0 there.1)
-  read_found k read reply image told (allowed.ReadMissing j name im stored by gone) = tt
-  read_found k read reply image told (allowed.ReadFault j name im stored by) = tt
-  read_found k read reply image told (allowed.RestoringShard j files bytes im q reading done) = tt
-  read_found k read reply image told (allowed.ReaderFailing j why im q reading) = tt
-  read_found k read reply image told (allowed.CheckingAll snapshots blobs_read im c) = tt
-  read_found k read reply image told (allowed.CheckFailing why im o) = tt
+  read_found k read reply image told other = tt
 
   step_found : (k : ℕ) (step : Step) (reply : Reply) (image : Option Image) → Tells image → Allows f size w k step reply image → FoundAt f seen step reply
   step_found k (ReadStep read) reply image told (allowed.Verifying r rep im h) = verify_found read reply image h
@@ -129,8 +113,6 @@ record OfText (f : Formats) (step : Step) (reply : Reply) (text : Bytes) : Type 
 of_text : (f : Formats) (step : Step) (reply : Reply) (text : Bytes) → Has (texts_at f step reply) text → OfText f step reply text
 of_text f (ReadStep (ReadBlob name)) WasFetched text (inl e) = record { name = name; step_is = refl; reply_is = refl; text_is = e }
 of_text f (ReadStep (ReadBlob name)) WasFetched text (inr h) = absurd h
-of_text f (ReadStep (ReadBlob name)) reply text h = absurd h
-of_text f (ReadStep read) reply text h = absurd h
 of_text f step reply text h = absurd h
 
 of_texts : (f : Formats) (es : List Entry) (text : Bytes) → Has (found_texts f es) text → (e : Entry) × Has es e × OfText f e.step e.reply text
@@ -159,8 +141,6 @@ one_once f seen (ReadStep (ReadBlob name)) WasFetched es fresh found all once = 
       fresh (subst (Has (keys es)) (ap key r.2.step_is ∙ ap ReadKey same) (has_key es r.0 r.1))),
   once,
 )
-one_once f seen (ReadStep (ReadBlob name)) reply es fresh found all once = once
-one_once f seen (ReadStep read) reply es fresh found all once = once
 one_once f seen step reply es fresh found all once = once
 
 texts_once : (f : Formats) (seen : List Bytes) (es : List Entry) → AreOnce (keys es) → ((e : Entry) → Has es e → FoundAt f seen e.step e.reply) → AreOnce (found_texts f es)

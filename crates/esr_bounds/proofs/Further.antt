@@ -9,7 +9,7 @@ use Rattle.esr_model.specs.Values.{Bytes, Has, RootIndex, RootData, IsOneEach, F
 use Rattle.esr_model.specs.Image.{index_at, at_shard, at_shard_of, Generation}
 use Rattle.esr_model.specs.Delete.{PrunedShard, deleted_root, files_read, left_text, pruned_blobs, doomed_names}
 use Rattle.esr_model.specs.Cleanup.{BlobSize, last_text, cleaned_names}
-use Rattle.esr_core.specs.World.{Work, Shard, Finalize, Deleting, Drop, Ticket, Swap}
+use Rattle.esr_core.specs.World.{Work, Shard, Deleting, Ticket, Swap}
 use Rattle.esr_core.specs.Restores.{AreOnce}
 use Rattle.esr_core.specs.Pruning.{AreOfRoot, doomed_as, doomed_by, dooms}
 use Rattle.esr_core.specs.Laws.NewRoots.{index_found}
@@ -142,10 +142,7 @@ doomed_alike f t v (Deleting uuids (Some s)) safe root read raised listed clean 
     by : (b : Bool) → doomed_as f v uuids s b ≡ doomed_as f t uuids s b
     by false = λ j. doomed_names f (safe j) (root j) s.root uuids (read j)
     by true = λ j. cleaned_names f (raised j) s.root (s.own ++ read j) (listed j)
-doomed_alike f t v (Deleting uuids None) safe root read raised listed clean = refl
-doomed_alike f t v (Shard index number) safe root read raised listed clean = refl
-doomed_alike f t v (Finalize info results made) safe root read raised listed clean = refl
-doomed_alike f t v Drop safe root read raised listed clean = refl
+doomed_alike f t v work safe root read raised listed clean = refl
 
 same_plan : (t v : Ticket) → v.root ≡ t.root → v.work ≡ t.work → Planned t → Planned v
 same_plan t v root work plan uuids s is = subst (λ (r : RootData). IsPlan r uuids s) (sym root) (plan uuids s (sym work ∙ is))

@@ -12,7 +12,7 @@ use Rattle.esr_core.specs.World.{World, Op, ShardWork, Pending, Out, RestoreShar
 use Rattle.esr_core.specs.Steps.{given, shard_ticket, final_ticket, plain_ticket}
 use Rattle.esr_core.specs.Turns.{cleaning_ticket}
 use Rattle.esr_core.specs.Tracked.{Tracked}
-use Rattle.esr_core.specs.Changes.{SameUnit, StepFrame, StepChange, NoChange, NewOp, NewDeletion, MergedDeletion, NewRestore, NewTicket, NewReader, OwnTicket, Settlement, UnitEnd, DeletionFailure, OpDrop, Election, ReaderFetch, ReaderEnd, PlainDraw, TestBlob, SwapFault}
+use Rattle.esr_core.specs.Changes.{SameUnit, StepFrame, StepChange, NewTicket, NewReader, OwnTicket, Settlement, UnitEnd, DeletionFailure, OpDrop, SwapFault}
 use Rattle.esr_core.specs.Entry.{Given, GivenShard, GivenClone, GivenFinalize, GivenDrop, GivenRestore, GivenDelete, GivenCleanup, Step, TakeStep, Refusal, Refused, Reply, Moment}
 use Rattle.esr_core.specs.After.{shard_of, taken_shard, taken_restore_shard, taken_restore, taken_by, answered, after}
 use Rattle.esr_core.specs.Restores.{restore_shard}
@@ -46,11 +46,6 @@ module _ (f : Formats) (w : World) (tracked : Tracked w) where
   ]
 
   pub by_take : (who : ℕ) (step : Step) (new : World) → StepChange f w who step new → (v : Ticket) → fin.get new.tickets w.next_ticket ≡ Some v → step ≡ TakeStep
-  by_take who step new NoChange v now = absurd (none_next v now)
-  by_take who step new (NewOp ask op completed next_id is rises) v now = absurd (none_next v now)
-  by_take who step new (NewDeletion ask ops x aborts clean) v now = absurd (none_next v now)
-  by_take who step new (MergedDeletion ask ops d x y aborts there clean failed) v now = absurd (none_next v now)
-  by_take who step new (NewRestore ask r) v now = absurd (none_next v now)
   by_take who step new (NewTicket take t is ops same) v now = take
   by_take who step new (NewReader take o r s there) v now = take
   by_take who step new (OwnTicket t u there same is next pending up more) v now = absurd (put_none who t u v there now)
@@ -58,12 +53,8 @@ module _ (f : Formats) (w : World) (tracked : Tracked w) where
   by_take who step new (UnitEnd t op u completed there standing same) v now = absurd (put_none who t (record t { out = false }) v there now)
   by_take who step new (DeletionFailure t x there standing) v now = absurd (put_none who t (record t { out = false }) v there now)
   by_take who step new (OpDrop drop t there) v now = absurd (put_none who t (record t { out = false }) v there now)
-  by_take who step new (Election elect) v now = absurd (none_next v now)
-  by_take who step new (ReaderFetch q name bytes there) v now = absurd (none_next v now)
-  by_take who step new (ReaderEnd q r state there standing) v now = absurd (none_next v now)
-  by_take who step new (PlainDraw next pending up more) v now = absurd (none_next v now)
-  by_take who step new (TestBlob name is) v now = absurd (none_next v now)
   by_take who step new (SwapFault swaps up change) v now = by_take who step up change v now
+  by_take who step new other v now = absurd (none_next v now)
 
 -- ---- the ticket of a shard that is given
 

@@ -12,8 +12,8 @@ use Rattle.esr_core.specs.World.{World, Op, ShardWork, Unread, BeingRead, Restor
 use Rattle.esr_core.specs.Restores.{restore_shard, handed, reader_of, read_more}
 use Rattle.esr_core.specs.Tracked.{Tracked}
 use Rattle.esr_core.specs.ReadTracked.{ReadTracked}
-use Rattle.esr_core.specs.Changes.{StepFrame, StepChange, NoChange, NewOp, NewDeletion, MergedDeletion, NewRestore, NewTicket, NewReader, OwnTicket, Settlement, UnitEnd, DeletionFailure, OpDrop, Election, ReaderFetch, ReaderEnd, PlainDraw, TestBlob, SwapFault}
-use Rattle.esr_core.specs.Entry.{Given, GivenShard, GivenClone, GivenFinalize, GivenDrop, GivenRestore, GivenDelete, GivenCleanup, Step, TakeStep, Reply, Moment}
+use Rattle.esr_core.specs.Changes.{StepFrame, StepChange, NewReader, ReaderFetch, ReaderEnd, SwapFault}
+use Rattle.esr_core.specs.Entry.{Given, GivenShard, GivenClone, GivenFinalize, GivenRestore, Step, TakeStep, Reply, Moment}
 use Rattle.esr_core.specs.After.{shard_of, taken_shard, taken_restore_shard, taken_restore, taken_by, answered, after}
 use Rattle.esr_core.specs.Allowed as allowed
 use Rattle.esr_core.specs.Allowed.{Gives, GivesRestore, Allows, Allowed}
@@ -63,27 +63,14 @@ module _ (f : Formats) (w : World) where
   ]
 
   readers_come : (who : ℕ) (step : Step) (new : World) → StepChange f w who step new → Comes step new.readers
-  readers_come who step new NoChange = same_readers step
-  readers_come who step new (NewOp ask op completed next_id is rises) = same_readers step
-  readers_come who step new (NewDeletion ask ops x aborts clean) = same_readers step
-  readers_come who step new (MergedDeletion ask ops d x y aborts there clean failed) = same_readers step
-  readers_come who step new (NewRestore ask r) = same_readers step
-  readers_come who step new (NewTicket take t is ops same) = same_readers step
   readers_come who step new (NewReader take o r s there) = λ k v e. elim (was_in w.readers w.next_ticket (reader_of o r s) k v e) [
     | inl here ↦ inr (here.0, take)
     | inr other ↦ inl (record { q = v; there = other.1; op = refl; index = refl; number = refl })
   ]
-  readers_come who step new (OwnTicket t u there same is next pending up more) = same_readers step
-  readers_come who step new (Settlement settle t s n names deletes there is raised left) = same_readers step
-  readers_come who step new (UnitEnd t op u completed there standing same) = same_readers step
-  readers_come who step new (DeletionFailure t x there standing) = same_readers step
-  readers_come who step new (OpDrop drop t there) = same_readers step
-  readers_come who step new (Election elect) = same_readers step
   readers_come who step new (ReaderFetch q name bytes there) = put_reader step who q (read_more q name bytes) there refl refl refl
   readers_come who step new (ReaderEnd q r state there standing) = put_reader step who q (record q { out = false }) there refl refl refl
-  readers_come who step new (PlainDraw next pending up more) = same_readers step
-  readers_come who step new (TestBlob name is) = same_readers step
   readers_come who step new (SwapFault swaps up change) = readers_come who step up change
+  readers_come who step new other = same_readers step
 
 -- ---- the ticket of a restore that is given
 
@@ -129,14 +116,9 @@ module _ (f : Formats) (size : ℕ) (w : World) (reads : ReadTracked w) where
       there : taken_restore w o i n (fin.get w.restores o) ≡ taken_restore_shard w o g.r (restore_shard g.r.shards i n)
       there = ap (taken_restore w o i n) g.ready.there
   read_by o (GivenShard i n base) g (Some op) v now = absurd (shard_none o op base (shard_of op.shards i n) v now)
-  read_by o (GivenShard i n base) g None v now = absurd (none_read v now)
   read_by o (GivenClone i n source base) g (Some op) v now = absurd (shard_none o op base (shard_of op.shards i n) v now)
-  read_by o (GivenClone i n source base) g None v now = absurd (none_read v now)
   read_by o (GivenFinalize info results) g (Some op) v now = absurd (none_read v now)
-  read_by o (GivenFinalize info results) g None v now = absurd (none_read v now)
-  read_by o GivenDrop g op v now = absurd (none_read v now)
-  read_by o (GivenDelete uuids) g op v now = absurd (none_read v now)
-  read_by o GivenCleanup g op v now = absurd (none_read v now)
+  read_by o unit g op v now = absurd (none_read v now)
 
   take_read : (who : ℕ) (step : Step) (reply : Reply) (image : Option Image) → step ≡ TakeStep → Allows f size w who step reply image → (v : Reader) → fin.get (answered f w who step reply image).readers w.next_ticket ≡ Some v
       → FreshRead w (answered f w who step reply image).restores v

@@ -170,14 +170,12 @@ module _ (f : Formats) (size : ℕ) (steps : StepLaws f size) where
   counts_client LookStep reply own = by_anew reply 0 0 0 0 0 0
   counts_client (ReadStep (ReadBlob name)) reply own = by_test reply name
   counts_client (ReadStep (RestoredShard files bytes)) reply own = absurd own
-  counts_client (ReadStep (CheckedAll snapshots blobs)) reply own = by_anew reply 0 0 0 0 0 0
   counts_client (ReadStep DrawTest) reply own = let one : idle_by 0 reply ≤ 1 = idle_one reply in let is : idle_by 0 reply ≤ 0 + (0 + (0 + (1 + (0 + (0 + 0))))) = omega (arith, one) in is
   counts_client (ReadStep (BeginTest name)) reply own = let one : idle_by 0 reply ≤ 1 = idle_one reply in let is : idle_by 0 reply ≤ 0 + (0 + (0 + (0 + (1 + (0 + 0))))) = omega (arith, one) in is
   counts_client (ReadStep (CommitTest name)) reply own = let one : idle_by 0 reply ≤ 1 = idle_one reply in let is : idle_by 0 reply ≤ 0 + (0 + (0 + (0 + (1 + (0 + 0))))) = omega (arith, one) in is
   counts_client (ReadStep (RemoveTests [])) reply own = let one : idle_by 0 reply ≤ 1 = idle_one reply in let is : idle_by 0 reply ≤ 0 + (0 + (0 + (0 + (0 + (1 + 0))))) = omega (arith, one) in is
   counts_client (ReadStep (RemoveTests (name ∷ names))) reply own = let one : idle_by 0 reply ≤ 1 = idle_one reply in let is : idle_by 0 reply ≤ 0 + (0 + (0 + (0 + (1 + (0 + 0))))) = omega (arith, one) in is
-  counts_client (ReadStep VerifiedAll) reply own = by_anew reply 0 0 0 0 0 0
-  counts_client (ReadStep (ReadFails why)) reply own = by_anew reply 0 0 0 0 0 0
+  counts_client (ReadStep other) reply own = by_anew reply 0 0 0 0 0 0
   counts_client step reply own = absurd own
 
   pub still_none : (w : World) (m : Moment) → Tracked w → NoneAtZero w → NoneAtZero (after f w m)
@@ -235,9 +233,7 @@ anew_one zero LookStep = let is : 1 ≤ 0 + (1 + 0) = omega arith in is
 anew_one zero (ReadStep (CheckedAll snapshots blobs)) = let is : 1 ≤ 0 + (0 + 1) = omega arith in is
 anew_one zero (ReadStep VerifiedAll) = let is : 1 ≤ 0 + (0 + 1) = omega arith in is
 anew_one zero (ReadStep (ReadFails why)) = let is : 1 ≤ 0 + (0 + 1) = omega arith in is
-anew_one zero (ReadStep read) = let is : 0 ≤ 0 + (0 + 0) = omega arith in is
-anew_one zero step = let is : 0 ≤ 0 + (0 + 0) = omega arith in is
-anew_one (suc k) step = let is : 0 ≤ 0 + (0 + 0) = omega arith in is
+anew_one who step = let is : 0 ≤ 0 + (0 + 0) = omega arith in is
 
 pub anew_few : (log : List Moment) → anew_in log ≤ commands_in log + (looks_in log + ends_in log)
 anew_few [] = let is : 0 ≤ 0 + (0 + 0) = omega arith in is

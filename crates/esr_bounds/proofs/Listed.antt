@@ -144,8 +144,7 @@ module _ (f : Formats) (size : ℕ) (w : World) where
         rising = shape.rising;
         above = λ b had. subst (λ (o : Option Bytes). IsAfter o b.text) (g.from_is ∙ ap (λ (x : Ticket). last_text x.listed) mine) (shape.follow b had);
       }
-  lists_page k t there (ListStep from) reply image told (allowed.ListFails j start im g same) = no_page w k t
-  lists_page k t there step reply image told a = no_page w k t
+  lists_page k t there step reply image told other = no_page w k t
 
 module _ (f : Formats) (size : ℕ) (change : (w : World) (m : Moment) (i : Image) → m.image ≡ Some i → Allowed f size w m → BlobsChange f w m.entry.step i.blobs)
     (w : World) (m : Moment) (a : Allowed f size w m) (told : Tells m.image) (seen : List Bytes) (h : SeenBlobs seen w) where

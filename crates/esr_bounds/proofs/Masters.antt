@@ -16,7 +16,7 @@ use Rattle.esr_core.specs.Steps.{IsOut, listing, noting, with_ticket, shard_tick
 use Rattle.esr_core.specs.Turns.{cleaning_ticket, fails}
 use Rattle.esr_core.specs.Pruning.{planned}
 use Rattle.esr_core.specs.Tracked.{Tracked}
-use Rattle.esr_core.specs.Changes.{IsUnits, IsNewTicket, SameUnit, StepChange, NoChange, NewOp, NewDeletion, MergedDeletion, NewRestore, NewTicket, NewReader, OwnTicket, Settlement, UnitEnd, DeletionFailure, OpDrop, Election, ReaderFetch, ReaderEnd, PlainDraw, TestBlob, SwapFault, Maker, ClientStep, ReaderStep, UnitStep}
+use Rattle.esr_core.specs.Changes.{IsUnits, IsNewTicket, SameUnit, StepChange, NewDeletion, MergedDeletion, Settlement, DeletionFailure, OpDrop, Election, SwapFault, Maker, ClientStep, ReaderStep, UnitStep}
 use Rattle.esr_core.specs.ReadTracked.{ReadTracked}
 use Rattle.esr_core.specs.Entry.{Given, GivenShard, GivenClone, GivenFinalize, GivenDrop, GivenRestore, GivenDelete, GivenCleanup, Prune, Step, AskStep, TakeStep, DrawStep, BeginStep, CommitStep, LatestStep, FetchStep, ListStep, RaiseStep, SettleStep, DoneStep, FailedStep, FinishStep, DroppedStep, ElectStep, LookStep, ReadStep, PruneStep, Reply, Moment}
 use Rattle.esr_core.specs.After.{shard_of, taken_shard, taken_restore_shard, taken_restore, taken_by, with_given, committing, fetching, told_blob, settled_by, settled_of, done_by, done_of, delete_settled_by, delete_settled, delete_failed_by, delete_failed, failed_by, failed_of, dropped_of, is_stale, has_text, is_latest, tried, raised, answered, after}
@@ -109,8 +109,7 @@ module _ (f : Formats) (w : World) where
     settle_end : (o : Option Swap) (n : Option ℕ) → swap f t ≡ o → OwnEnd f w k t (settled_by f w k t o n)
     settle_end (Some s) (Some n) is =
         record { v = record t { settled = true }; at = same_in w.tickets k (record t { settled = true }); outcome = Settles refl s is (gone_in w.ops t.op) (λ kept. gone_in w.deletes t.op) }
-    settle_end (Some s) None is = as_before
-    settle_end None n is = as_before
+    settle_end o n is = as_before
 
     settled_end : OwnEnd f w k t (settled_of f w k (fin.get w.tickets k))
     settled_end = subst (λ (o : Option Ticket). OwnEnd f w k t (settled_of f w k o)) (sym there) (settle_end (swap f t) t.raised refl)
@@ -122,8 +121,7 @@ module _ (f : Formats) (w : World) where
     delete_settle_end : (o : Option Swap) (n : Option ℕ) → swap f t ≡ o → OwnEnd f w k t (delete_settled_by f w k t o n)
     delete_settle_end (Some s) (Some n) is =
         record { v = record t { settled = true }; at = same_in w.tickets k (record t { settled = true }); outcome = Settles refl s is (gone_in w.ops t.op) (left_gone t.clean refl) }
-    delete_settle_end (Some s) None is = as_before
-    delete_settle_end None n is = as_before
+    delete_settle_end o n is = as_before
 
     delete_settled_end : OwnEnd f w k t (delete_settled f w k (fin.get w.tickets k))
     delete_settled_end = subst (λ (o : Option Ticket). OwnEnd f w k t (delete_settled f w k o)) (sym there) (delete_settle_end (swap f t) t.raised refl)
@@ -149,8 +147,7 @@ module _ (f : Formats) (w : World) where
     stale_or_now : (work : Work) (b : Bool) → is_stale w t work ≡ b → (b ≡ true → t.term ≢ w.term) × (b ≡ false → IsShard work ⊎ (t.term ≡ w.term))
     stale_or_now (Shard index number) b is = (λ on. let clash : false ≡ true = is ∙ on in absurd cc, λ off. inl tt)
     stale_or_now (Finalize info results made) b is = let h = by_term b is in (h.0, λ off. inr (h.1 off))
-    stale_or_now (Deleting uuids plan) b is = let h = by_term b is in (h.0, λ off. inr (h.1 off))
-    stale_or_now Drop b is = let h = by_term b is in (h.0, λ off. inr (h.1 off))
+    stale_or_now work b is = let h = by_term b is in (h.0, λ off. inr (h.1 off))
 
     failed_end : IsShard t.work ⊎ IsMaster t.work → (IsShard t.work ⊎ (t.term ≡ w.term) → (op : Op) → fin.get w.ops t.op ≡ Some op → IsDelete t.work → ⊥) → OwnEnd f w k t (failed_of w k (fin.get w.tickets k))
     failed_end unit no_delete = subst (λ (o : Option Ticket). OwnEnd f w k t (failed_of w k o)) (sym there) (by (is_stale w t t.work) refl)
@@ -191,23 +188,18 @@ module _ (f : Formats) (w : World) where
   module _ (size : ℕ) (tracked : Tracked w) where
     pruning_end : (k : ℕ) (t : Ticket) (there : fin.get w.tickets k ≡ Some t) (prune : Prune) (reply : Reply) (image : Option Image) → PruneAllows f w k prune reply image → OwnEnd f w k t (answered f w k (PruneStep prune) reply image)
     pruning_end k t there prune reply image (allowed.FetchingShard j name im g found) = fetch_end k t there name (told_blob f im name)
-    pruning_end k t there prune reply image (allowed.ShardMissing j name im g gone) = as_before k t there
-    pruning_end k t there prune reply image (allowed.FetchShardFails j name im g same) = as_before k t there
     pruning_end k t there prune reply image (allowed.Planning j shards im p fits back same) =
         besides k t there (with_given w k (planned f shards w.next_id) (fin.get w.tickets k)) (record (with_given w k (planned f shards w.next_id) (fin.get w.tickets k)) { next_id = w.next_id + kept_count shards }) refl refl refl
         (anew k t there (planned f shards w.next_id) refl refl (fin.get w.tickets k) there)
-    pruning_end k t there prune reply image (allowed.PlanSpent j shards im p spent same) = as_before k t there
     pruning_end k t there prune reply image (allowed.SettlingDelete j im s present same) = delete_settled_end k t there
-    pruning_end k t there prune reply image (allowed.SettleDeleteStale j im s apart same) = as_before k t there
     pruning_end k t there prune reply image (allowed.SettleDeleteFails j im s present same) =
         let up : World = delete_settled f w k (fin.get w.tickets k) in fallen_end k t there up w (has_text im (f.cluster.text (record_of up))) (delete_settled_end k t there) (as_before k t there)
-    pruning_end k t there prune reply image (allowed.RemovingDoomed j names im r removed) = as_before k t there
-    pruning_end k t there prune reply image (allowed.RemoveDoomedFails j names im r removes) = as_before k t there
     pruning_end k t there prune reply image (allowed.EndingDelete j im d same) =
         let mine : d.t ≡ t = same_ticket k t there d.t d.deleting.out in
         over_given k t there (λ v. WasSettled (ap (λ (x : Ticket). x.settled) (sym mine) ∙ d.settled) (λ delete. ap (λ (x : Ticket). x.clean) (sym mine) ∙ d.deletes))
     pruning_end k t there prune reply image (allowed.FailingDelete j why im d same) =
         delete_failed_end k t there (subst (λ (x : Ticket). IsDelete x.work) (same_ticket k t there d.t d.deleting.out) (subst IsDelete (sym d.deleting.work) tt))
+    pruning_end k t there prune reply image other = as_before k t there
 
     own_end : (k : ℕ) (t : Ticket) (there : fin.get w.tickets k ≡ Some t) (step : Step) (reply : Reply) (image : Option Image) → IsUnits step → Allows f size w k step reply image → OwnEnd f w k t (answered f w k step reply image)
     own_end k t there (AskStep command) reply image unit a = absurd unit
@@ -220,28 +212,17 @@ module _ (f : Formats) (w : World) where
         besides k t there (with_given w k (λ (x : Ticket). record x { first = w.next_id; drawn = n }) (fin.get w.tickets k))
         (record (with_given w k (λ (x : Ticket). record x { first = w.next_id; drawn = n }) (fin.get w.tickets k)) { next_id = w.next_id + n }) refl refl refl
         (anew k t there (λ (x : Ticket). record x { first = w.next_id; drawn = n }) refl refl (fin.get w.tickets k) there)
-    own_end k t there (DrawStep n) reply image unit (allowed.DrawSpent j m im d spent same) = as_before k t there
-    own_end k t there (BeginStep name) reply image unit (allowed.Beginning j n im b same) = as_before k t there
-    own_end k t there (BeginStep name) reply image unit (allowed.BeginningLatest j im p same) = as_before k t there
     own_end k t there (BeginStep name) reply image unit (allowed.BeginFails j n im b same) = either_end k t there (tried w k) w (is_latest name) (tried_end k t there) (as_before k t there)
     own_end k t there (BeginStep name) reply image unit (allowed.BeginLatestFails j im p same) = tried_end k t there
     own_end k t there (CommitStep name) reply image unit (allowed.Committing j n im b adds) = commit_end k t there name (told_blob f image name)
     own_end k t there (CommitStep name) reply image unit (allowed.Finding j n im b found) = anew k t there (λ (x : Ticket). noting x name) refl refl (fin.get w.tickets k) there
-    own_end k t there (CommitStep name) reply image unit (allowed.Taken j n im b aside found) = as_before k t there
-    own_end k t there (CommitStep name) reply image unit (allowed.CommitFails j n im b leaves) = as_before k t there
     own_end k t there LatestStep reply image unit (allowed.Replacing j im p named put) = tried_end k t there
     own_end k t there LatestStep reply image unit (allowed.ReplaceFails j im p named puts) = tried_end k t there
     own_end k t there (FetchStep name) reply image unit (allowed.Fetching j n im g found) = fetch_end k t there name (told_blob f image name)
-    own_end k t there (FetchStep name) reply image unit (allowed.Missing j n im g gone) = as_before k t there
-    own_end k t there (FetchStep name) reply image unit (allowed.FetchFails j n im g same) = as_before k t there
     own_end k t there (ListStep from) reply image unit (allowed.Listing j after page im g shape here) = anew k t there (λ (x : Ticket). listing x page) refl refl (fin.get w.tickets k) there
-    own_end k t there (ListStep from) reply image unit (allowed.ListFails j after im g same) = as_before k t there
     own_end k t there RaiseStep reply image unit (allowed.Raising j n im r same) = raise_end k t there
-    own_end k t there RaiseStep reply image unit (allowed.RaiseStale j im r apart same) = as_before k t there
-    own_end k t there RaiseStep reply image unit (allowed.RaiseSpent j im r present spent same) = as_before k t there
     own_end k t there RaiseStep reply image unit (allowed.RaiseFails j im r same) = fallen_end k t there (raised w k) w (has_text image (f.cluster.text (record_of (raised w k)))) (raise_end k t there) (as_before k t there)
     own_end k t there SettleStep reply image unit (allowed.Settling j im s same) = settled_end k t there
-    own_end k t there SettleStep reply image unit (allowed.SettleStale j n u s im may apart same) = as_before k t there
     own_end k t there SettleStep reply image unit (allowed.SettleFails j im s same) =
         let up : World = settled_of f w k (fin.get w.tickets k) in fallen_end k t there up w (has_text image (f.cluster.text (record_of up))) (settled_end k t there) (as_before k t there)
     own_end k t there (DoneStep result) reply image unit (allowed.Doing j r im d same) = done_end k t there result (subst (λ (x : Ticket). IsShard x.work) (same_ticket k t there d.t d.out) (subst IsShard (sym d.is) tt))
@@ -254,9 +235,7 @@ module _ (f : Formats) (w : World) where
             let present : t.term ≡ w.term = ⊎_elim (λ (shard : IsShard t.work). absurd (subst IsShard is shard)) (λ (same : t.term ≡ w.term). same) now in
             let h = tracked.deleting k t uuids plan there (ap (λ (x : Ticket). x.out) (sym mine) ∙ d.out.out) (ap (λ (x : Ticket). x.settled) (sym mine) ∙ d.unsettled) present is in
             tracked.apart t.op op h.x standing h.there
-        no_delete mine now op standing (Shard index number) is delete = delete
-        no_delete mine now op standing (Finalize info results made) is delete = delete
-        no_delete mine now op standing Drop is delete = delete
+        no_delete mine now op standing work is delete = delete
     own_end k t there FinishStep reply image unit (allowed.Finishing j im d same) =
         let mine : d.t ≡ t = same_ticket k t there d.t d.out in
         over_given k t there (λ v. ⊎_elim
@@ -266,13 +245,11 @@ module _ (f : Formats) (w : World) where
       where
         no_delete : d.t ≡ t → ((uuids : List ℕ) (plan : Option Swap) → d.t.work ≡ Deleting uuids plan → ⊥) → (work : Work) → t.work ≡ work → IsDelete work → ⊥
         no_delete mine none (Deleting uuids plan) is delete = none uuids plan (ap (λ (x : Ticket). x.work) mine ∙ is)
-        no_delete mine none (Shard index number) is delete = delete
-        no_delete mine none (Finalize info results made) is delete = delete
-        no_delete mine none Drop is delete = delete
+        no_delete mine none work is delete = delete
     own_end k t there DroppedStep reply image unit (allowed.Dropping j im d same) = dropped_end k t there
-    own_end k t there DroppedStep reply image unit (allowed.DropStale j im may apart same) = as_before k t there
     own_end k t there DroppedStep reply image unit (allowed.DropFails j im d same) =
         let up : World = dropped_of w k (fin.get w.tickets k) in fallen_end k t there up w (has_text image (f.cluster.text (record_of up))) (dropped_end k t there) (as_before k t there)
+    own_end k t there step reply image unit other = as_before k t there
 
 -- ---- open deletes, and the term
 
@@ -294,47 +271,21 @@ module _ (f : Formats) (w : World) where
   removed o deletes is d v e = inr (v, (left_in w.deletes o d v (subst (λ (m : FinMap nat_cmp Deletion). fin.get m d ≡ Some v) is e)).1, λ h. h)
 
   deletes_on : (who : ℕ) (step : Step) (new : World) → StepChange f w who step new → DeletesOn w new.deletes
-  deletes_on who step new NoChange = same_deletes
-  deletes_on who step new (NewOp ask op completed next_id is rises) = same_deletes
   deletes_on who step new (NewDeletion ask ops x aborts clean) = λ d v e. elim (was_in w.deletes w.next_op x d v e) [ inl here ↦ inl here.0 | inr other ↦ inr (v, other.1, λ h. h) ]
   deletes_on who step new (MergedDeletion ask ops d x y aborts there clean failed) = put_delete d x y there (λ h. sym failed ∙ h)
-  deletes_on who step new (NewRestore ask r) = same_deletes
-  deletes_on who step new (NewTicket take t is ops same) = same_deletes
-  deletes_on who step new (NewReader take o r s there) = same_deletes
-  deletes_on who step new (OwnTicket t u there same is next pending up more) = same_deletes
   deletes_on who step new (Settlement settle t s n names deletes there is raised left) = ⊎_elim
       (λ gone. removed t.op deletes gone)
       (λ kept. λ d v e. inr (v, subst (λ (m : FinMap nat_cmp Deletion). fin.get m d ≡ Some v) kept.1 e, λ h. h))
       left
-  deletes_on who step new (UnitEnd t op u completed there standing same) = same_deletes
   deletes_on who step new (DeletionFailure t x there standing) = put_delete t.op x (record x { failed = true }) standing (λ h. let clash : true ≡ false = h in absurd cc)
   deletes_on who step new (OpDrop drop t there) = removed t.op (fin.remove w.deletes t.op) refl
-  deletes_on who step new (Election elect) = same_deletes
-  deletes_on who step new (ReaderFetch q name bytes there) = same_deletes
-  deletes_on who step new (ReaderEnd q r state there standing) = same_deletes
-  deletes_on who step new (PlainDraw next pending up more) = same_deletes
-  deletes_on who step new (TestBlob name is) = same_deletes
   deletes_on who step new (SwapFault swaps up change) = deletes_on who step up change
+  deletes_on who step new other = same_deletes
 
   term_on : (who : ℕ) (step : Step) (new : World) → StepChange f w who step new → (new.term ≡ w.term) ⊎ (new.term ≡ suc w.term)
-  term_on who step new NoChange = inl refl
-  term_on who step new (NewOp ask op completed next_id is rises) = inl refl
-  term_on who step new (NewDeletion ask ops x aborts clean) = inl refl
-  term_on who step new (MergedDeletion ask ops d x y aborts there clean failed) = inl refl
-  term_on who step new (NewRestore ask r) = inl refl
-  term_on who step new (NewTicket take t is ops same) = inl refl
-  term_on who step new (NewReader take o r s there) = inl refl
-  term_on who step new (OwnTicket t u there same is next pending up more) = inl refl
-  term_on who step new (Settlement settle t s n names deletes there is raised left) = inl refl
-  term_on who step new (UnitEnd t op u completed there standing same) = inl refl
-  term_on who step new (DeletionFailure t x there standing) = inl refl
-  term_on who step new (OpDrop drop t there) = inl refl
   term_on who step new (Election elect) = inr refl
-  term_on who step new (ReaderFetch q name bytes there) = inl refl
-  term_on who step new (ReaderEnd q r state there standing) = inl refl
-  term_on who step new (PlainDraw next pending up more) = inl refl
-  term_on who step new (TestBlob name is) = inl refl
   term_on who step new (SwapFault swaps up change) = term_on who step up change
+  term_on who step new other = inl refl
 
 -- ---- what holds of the tickets of the present term
 
@@ -425,10 +376,8 @@ module _ (f : Formats) (w : World) (step : Step) (new : World) (works : Works w 
   final_on (FailsDelete delete failed) work op there goes = absurd (clash t.work delete (final_back t v same work))
     where
       clash : (u : Work) → IsDelete u → IsFinalize u → ⊥
-      clash (Deleting uuids plan) a b = b
-      clash (Shard index number) a b = b
       clash (Finalize info results made) a b = a
-      clash Drop a b = b
+      clash u a b = b
   final_on (Leaves settled gone left) work op there goes = absurd (none-some op (sym gone ∙ at_op new.ops (Some op) there))
   final_on (WasSettled settled clean) work op there goes =
       let was = old_op op (at_op new.ops (Some op) there) goes in
@@ -439,8 +388,7 @@ module _ (f : Formats) (w : World) (step : Step) (new : World) (works : Works w 
       clash : (u : Work) → IsShard u → IsFinalize u → ⊥
       clash (Shard index number) a b = b
       clash (Finalize info results made) a b = a
-      clash (Deleting uuids plan) a b = a
-      clash Drop a b = a
+      clash u a b = a
 
   drop_on : Outcome f w new.ops new.deletes t v → IsDropped v.work → (v.settled ≡ false) × ((v.out ≡ true) ⊎ ((fin.get new.ops v.op ≡ None) × (fin.get new.deletes v.op ≡ None)))
   drop_on (GoesOn out settled) work =
@@ -452,33 +400,29 @@ module _ (f : Formats) (w : World) (step : Step) (new : World) (works : Works w 
     where
       clash : (u : Work) → IsDropped u → swap_of f u t.root ≡ Some s → ⊥
       clash Drop a e = none-some s e
-      clash (Shard index number) a e = a
       clash (Finalize info results made) a e = a
-      clash (Deleting uuids plan) a e = a
+      clash u a e = a
   drop_on (FailsOp no_delete unit failed) work = absurd (clash t.work (drop_back t v same work) unit)
     where
       clash : (u : Work) → IsDropped u → IsShard u ⊎ IsMaster u → ⊥
       clash Drop a e = ⊎_elim (λ (b : IsShard Drop). b) (λ (b : IsMaster Drop). b) e
-      clash (Shard index number) a e = a
       clash (Finalize info results made) a e = a
-      clash (Deleting uuids plan) a e = a
+      clash u a e = a
   drop_on (FailsDelete delete failed) work = absurd (clash t.work delete (drop_back t v same work))
     where
       clash : (u : Work) → IsDelete u → IsDropped u → ⊥
       clash (Deleting uuids plan) a b = b
-      clash (Shard index number) a b = b
-      clash (Finalize info results made) a b = b
       clash Drop a b = a
+      clash u a b = b
   drop_on (Leaves settled gone left) work = (settled ∙ (h.drop (drop_back t v same work)).0, inr (to_op new.ops None gone, to_op new.deletes None left))
   drop_on (WasSettled settled clean) work = let clash : true ≡ false = sym settled ∙ (h.drop (drop_back t v same work)).0 in absurd cc
   drop_on (OfPast past) work = absurd (past present)
   drop_on (OfShard shard) work = absurd (clash t.work shard (drop_back t v same work))
     where
       clash : (u : Work) → IsShard u → IsDropped u → ⊥
-      clash (Shard index number) a b = b
       clash (Finalize info results made) a b = b
-      clash (Deleting uuids plan) a b = b
       clash Drop a b = a
+      clash u a b = b
 
   delete_on : Outcome f w new.ops new.deletes t v → IsDelete v.work → (x : Deletion) → fin.get new.deletes v.op ≡ Some x → x.failed ≡ false → (v.out ≡ true) × (v.clean ≡ false → v.settled ≡ false)
   delete_on (GoesOn out settled) work x there unfailed =
@@ -500,10 +444,8 @@ module _ (f : Formats) (w : World) (step : Step) (new : World) (works : Works w 
   delete_on (OfShard shard) work x there unfailed = absurd (clash t.work shard (delete_back t v same work))
     where
       clash : (u : Work) → IsShard u → IsDelete u → ⊥
-      clash (Shard index number) a b = b
-      clash (Finalize info results made) a b = b
       clash (Deleting uuids plan) a b = a
-      clash Drop a b = b
+      clash u a b = b
 
   holds_on : Outcome f w new.ops new.deletes t v → Holds new.ops new.deletes v
   holds_on o = record { final = final_on o; drop = drop_on o; delete = delete_on o }
@@ -530,9 +472,7 @@ module _ (f : Formats) (size : ℕ) (w : World) (tracked : Tracked w) (v : Ticke
 
   unit_ready : (o : ℕ) (unit : Given) → Gives f w o unit → (op : Option Op) → fin.get w.ops o ≡ op → fin.get (taken_by f w o unit op).tickets w.next_ticket ≡ Some v → ReadyOf w v.op v.work
   unit_ready o (GivenShard i n base) g (Some op) is now = shard_ready o op base (shard_of op.shards i n) now
-  unit_ready o (GivenShard i n base) g None is now = absurd (none_next f w tracked v now)
   unit_ready o (GivenClone i n source base) g (Some op) is now = shard_ready o op base (shard_of op.shards i n) now
-  unit_ready o (GivenClone i n source base) g None is now = absurd (none_next f w tracked v now)
   unit_ready o (GivenRestore i n uuid) g op is now = absurd (by (fin.get w.restores o) now)
     where
       one : (r : Restoring) (s : Option RestoreShard) → fin.get (taken_restore_shard w o r s).tickets w.next_ticket ≡ Some v → ⊥
@@ -549,10 +489,10 @@ module _ (f : Formats) (size : ℕ) (w : World) (tracked : Tracked w) (v : Ticke
       one_each =
           subst (λ (x : Op). IsOneEach (finalized_root w.root (info_of x results) results).indices) (same_Some g.op op (sym g.ready.op_there ∙ is))
           (f.one_each (f.root.text (finalized_root w.root (info_of g.op results) results)) (finalized_root w.root (info_of g.op results) results) g.root_back)
-  unit_ready o (GivenFinalize info results) g None is now = absurd (none_next f w tracked v now)
   unit_ready o GivenDrop g op is now = ready_put (plain_ticket w o Drop) now g
   unit_ready o (GivenDelete uuids) g op is now = ready_put (plain_ticket w o (Deleting uuids None)) now (g.0, inl g.1, refl)
   unit_ready o GivenCleanup g op is now = ready_put (cleaning_ticket w o) now (g.0, inr g.1, refl)
+  unit_ready o unit g op is now = absurd (none_next f w tracked v now)
 
   pub take_ready : (who : ℕ) (step : Step) (reply : Reply) (image : Option Image) → step ≡ TakeStep → Allows f size w who step reply image → fin.get (answered f w who step reply image).tickets w.next_ticket ≡ Some v
       → ReadyOf w v.op v.work
@@ -572,9 +512,8 @@ module _ (w : World) (tracked : Tracked w) (j : ℕ) (t : Ticket) (there : fin.g
     where
       master : (u : Work) → IsFinalize u → IsMaster u
       master (Finalize info results made) a = tt
-      master (Shard index number) a = a
       master (Deleting uuids plan) a = absurd a
-      master Drop a = a
+      master u a = a
 
   no_drop : IsDropped t.work → ReadyDrop w t.op → ⊥
   no_drop work ready = ⊎_elim
@@ -591,9 +530,7 @@ module _ (w : World) (tracked : Tracked w) (j : ℕ) (t : Ticket) (there : fin.g
       let clean : t.clean ≡ false = sym (tracked.deletions.modes j t uuids plan there is x ready.there) ∙ ready.deletes in
       ready.no_swap j (swap_out held.0 (held.1 clean) (subst IsMaster (sym is) tt))
   no_delete (Deleting uuids plan) is own x (inr ready) = ready.no_ticket j t there (h.delete (subst IsDelete (sym is) tt) x ready.there ready.unfailed).0
-  no_delete (Shard index number) is own x ready = own
-  no_delete (Finalize info results made) is own x ready = own
-  no_delete Drop is own x ready = own
+  no_delete work is own x ready = own
 
 -- ---- a step
 
@@ -680,27 +617,22 @@ module _ (f : Formats) (size : ℕ) (laws : MasterLaws f size) (w : World) (m : 
     where
       by : (work : Work) → IsFinalize work → ReadyOf w t.op work → ⊥
       by (Finalize info results made) own ready = no_final w tracked j t there term (once.holds j t there term) is ready.0 ready.1 ready.2
-      by (Shard index number) own ready = own
-      by (Deleting uuids plan) own ready = own
-      by Drop own ready = own
+      by work own ready = own
 
   drop_apart : (j : ℕ) (t v : Ticket) → fin.get w.tickets j ≡ Some t → fin.get up.tickets w.next_ticket ≡ Some v → IsDropped t.work → IsDropped v.work → t.op ≡ v.op → t.term ≡ w.term → ⊥
   drop_apart j t v there now is also op term = by v.work also (subst (λ (o : ℕ). ReadyOf w o v.work) (sym op) (ready_now v now))
     where
       by : (work : Work) → IsDropped work → ReadyOf w t.op work → ⊥
       by Drop own ready = no_drop w tracked j t there term (once.holds j t there term) is ready
-      by (Shard index number) own ready = own
       by (Deleting uuids plan) own ready = own
-      by (Finalize info results made) own ready = own
+      by work own ready = own
 
   delete_apart : (j : ℕ) (t v : Ticket) → fin.get w.tickets j ≡ Some t → fin.get up.tickets w.next_ticket ≡ Some v → IsDelete t.work → IsDelete v.work → t.op ≡ v.op → t.term ≡ w.term → ⊥
   delete_apart j t v there now is also op term = by v.work also (subst (λ (o : ℕ). ReadyOf w o v.work) (sym op) (ready_now v now))
     where
       by : (work : Work) → IsDelete work → ReadyOf w t.op work → ⊥
       by (Deleting uuids plan) own ready = no_delete w tracked j t there term (once.holds j t there term) t.work refl is ready.0 ready.1
-      by (Shard index number) own ready = own
-      by (Finalize info results made) own ready = own
-      by Drop own ready = own
+      by work own ready = own
 
   numbered_now : (k : ℕ) (v : Ticket) → fin.get up.tickets k ≡ Some v → 1 ≤ k
   numbered_now k v now = elim ((laws.frame w m).come k v now) [

@@ -3,7 +3,7 @@ use Rattle.std.proofs.Common.{◌≡◌, ◌⊎◌, ℕ, zero, suc, ◌+◌, ◌
 use Rattle.std.specs.Prelude.{max}
 use Rattle.std.proofs.lemmas.Bool.Decides.{eqb_tells}
 use Rattle.esr_model.specs.Lists.{Has-left, Has-right, Has-either, Has-map, Has-mapped}
-use Rattle.esr_model.specs.Names.{BlobName, Root, Latest, Snap, Meta, IndexMeta, ShardSnap, ShardIndex, File, Part, TestMaster, TestNode}
+use Rattle.esr_model.specs.Names.{BlobName, Root, ShardSnap, ShardIndex, File, Part}
 use Rattle.esr_model.specs.Values.{Bytes, Has, Formats, files_told}
 use Rattle.esr_model.specs.Parts.{part_count, parts_from}
 use Rattle.esr_core.specs.World.{Work, Shard, Finalize, Deleting, Drop, Ticket, Swap, swap, swap_of}
@@ -116,13 +116,7 @@ module _ (f : Formats) (size : ℕ) (known : (place name : Bytes) (number : ℕ)
   shard_named (ShardIndex i k x) is (work, drew) h = index_named i k x (sym is ∙ work) drew
   shard_named (File i k x) is (work, drew) h = file_named i k x (sym is ∙ work) drew
   shard_named (Part i k x p) is (work, drew) h = part_named i k x p (sym is ∙ work) drew h
-  shard_named (Root n) is c h = absurd c
-  shard_named Latest is c h = absurd c
-  shard_named (Snap u) is c h = absurd c
-  shard_named (Meta u) is c h = absurd c
-  shard_named (IndexMeta i u) is c h = absurd c
-  shard_named (TestMaster v) is c h = absurd c
-  shard_named (TestNode v n) is c h = absurd c
+  shard_named name is c h = absurd c
 
 -- ---- what a ticket commits
 
@@ -131,8 +125,7 @@ module _ (f : Formats) (size : ℕ) (known : (place name : Bytes) (number : ℕ)
       → Has (shard_names f size t work t.first t.drawn) name
   of_shard t name (Shard index number) is shard c numbered = shard_named f size known t index number name is c (numbered index number is)
   of_shard t name (Finalize info results made) is shard c numbered = absurd shard
-  of_shard t name (Deleting uuids plan) is shard c numbered = absurd shard
-  of_shard t name Drop is shard c numbered = absurd shard
+  of_shard t name work is shard c numbered = absurd shard
 
   in_swap : (o : Option Swap) (s : Swap) (name : BlobName) (bytes : Bytes) → o ≡ Some s → Has s.own (name, bytes) → Has (swap_names o) name
   in_swap o s name bytes is own = subst (λ (x : Option Swap). Has (swap_names x) name) (sym is) (Has-map (λ (b : BlobName × Bytes). b.0) s.own (name, bytes) own)
@@ -201,8 +194,7 @@ module _ (f : Formats) (size : ℕ) (t v : Ticket) (g : Grown t v) where
       only (inl e) = inl (ap (λ (b : Ticket). ShardSnap index number b.uuid) g.same ∙ e)
       only (inr h) = absurd h
   shard_part (Finalize info results made) is n h = absurd h
-  shard_part (Deleting uuids plan) is n h = absurd h
-  shard_part Drop is n h = absurd h
+  shard_part work is n h = absurd h
 
   root_part : (n : BlobName) → Has (root_names t.raised) n → Has (root_names v.raised) n
   root_part n h = elim g.raised [
@@ -235,8 +227,7 @@ module _ (f : Formats) (size : ℕ) (t v : Ticket) (g : Grown t v) where
   fetch_part (Shard index number) n h =
       subst (λ (b : Ticket). Has (base_names index number b.base ++ source_names index number b.source) n) (sym g.same) h
   fetch_part (Finalize info results made) n h = absurd h
-  fetch_part (Deleting uuids plan) n h = absurd h
-  fetch_part Drop n h = absurd h
+  fetch_part work n h = absurd h
 
   pub fetches_grown : (n : BlobName) → Has (fetch_names t t.work) n → Has (fetch_names v v.work) n
   fetches_grown n h = elim g.work [

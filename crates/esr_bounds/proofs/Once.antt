@@ -73,7 +73,6 @@ made FinishStep = tt
 made (ReadStep (ReadBlob name)) = refl
 made (ReadStep (RestoredShard files bytes)) = tt
 made (ReadStep (ReadFails why)) = tt
-made (ReadStep read) = λ h. h
 made (PruneStep (FetchShard name)) = refl
 made (PruneStep (PlanShards shards)) = (shards, refl)
 made (PruneStep SettlePruned) = refl
@@ -81,7 +80,7 @@ made (PruneStep (RemoveDoomed [])) = refl
 made (PruneStep (RemoveDoomed (name ∷ names))) = (names, refl)
 made (PruneStep EndDelete) = tt
 made (PruneStep (DeleteFails why)) = tt
-made step = λ h. h
+made a = λ h. h
 
 as_steps : (a b x y : Step) → a ≡ x → b ≡ y → Repeats x y → Repeats a b
 as_steps a b x y p q r = subst (λ (z : Step). Repeats z b) (sym p) (subst (λ (z : Step). Repeats x z) (sym q) r)

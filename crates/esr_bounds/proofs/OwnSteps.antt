@@ -14,7 +14,7 @@ use Rattle.esr_core.specs.World.{World, Op, Deletion, Shard, Deleting, Ticket, S
 use Rattle.esr_core.specs.Steps.{IsOut, IsToFetch, MostDrawn, listing, noting, with_ticket}
 use Rattle.esr_core.specs.Pruning.{AreOfRoot, delete_swap, planned_work, planned}
 use Rattle.esr_core.specs.Changes.{IsUnits}
-use Rattle.esr_core.specs.Entry.{Prune, RemoveDoomed, Step, AskStep, TakeStep, DrawStep, BeginStep, CommitStep, LatestStep, FetchStep, ListStep, RaiseStep, SettleStep, DoneStep, FailedStep, FinishStep, DroppedStep, ElectStep, LookStep, ReadStep, PruneStep, Reply, WasListed}
+use Rattle.esr_core.specs.Entry.{Prune, RemoveDoomed, Step, DrawStep, BeginStep, CommitStep, LatestStep, FetchStep, ListStep, RaiseStep, SettleStep, DoneStep, FailedStep, FinishStep, DroppedStep, PruneStep, Reply, WasListed}
 use Rattle.esr_core.specs.After.{with_given, committing, fetching, told_blob, settled_by, settled_of, done_by, done_of, delete_settled_by, delete_settled, delete_failed_by, delete_failed, failed_by, failed_of, dropped_of, is_stale, has_text, is_latest, tried, raised, answered}
 use Rattle.esr_core.specs.Allowed as allowed
 use Rattle.esr_core.specs.Allowed.{Commits, MayRaise, PruneAllows, Allows}
@@ -80,9 +80,6 @@ module _ (f : Formats) (size : ℕ) (known : (place name : Bytes) (number : ℕ)
     keeps : (v : Ticket) → Grown t v → (DrewFew f t → DrewFew f v) → Further f t [] v → (up : World) → up.tickets ≡ fin.insert w.tickets k v → Onward f k t [] up
     keeps v grown few further up is = record { v = v; at = ap (λ m. fin.get m k) is ∙ same_in w.tickets k v; grown = grown; few = few; further = further }
 
-    over : Ticket
-    over = record t { out = false }
-
     over_onward : (up : World) → up.tickets ≡ fin.insert w.tickets k (record t { out = false }) → Onward f k t [] up
     over_onward up is = keeps (record t { out = false }) (still t (record t { out = false }) refl refl refl refl refl) (λ few. few) (alike f t (record t { out = false }) refl refl refl refl refl refl) up is
 
@@ -133,8 +130,7 @@ module _ (f : Formats) (size : ℕ) (known : (place name : Bytes) (number : ℕ)
     settle_onward : t.settled ≡ false → (o : Option Swap) (n : Option ℕ) → Onward f k t [] (settled_by f w k t o n)
     settle_onward unsettled (Some s) (Some n) =
         keeps (record t { settled = true }) (still t (record t { settled = true }) refl refl refl refl refl) (λ few. few) (early_alike f t (record t { settled = true }) refl refl refl unsettled) (settled_by f w k t (Some s) (Some n)) refl
-    settle_onward unsettled (Some s) None = as_before
-    settle_onward unsettled None n = as_before
+    settle_onward unsettled o n = as_before
 
     settled_onward : (u : Ticket) → IsOut w k u → u.settled ≡ false → Onward f k t [] (settled_of f w k (fin.get w.tickets k))
     settled_onward u out unsettled = subst (λ (o : Option Ticket). Onward f k t [] (settled_of f w k o)) (sym there) (settle_onward (unsettled_of u out unsettled) (swap f t) t.raised)
@@ -142,8 +138,7 @@ module _ (f : Formats) (size : ℕ) (known : (place name : Bytes) (number : ℕ)
     delete_settle_onward : t.settled ≡ false → (o : Option Swap) (n : Option ℕ) → Onward f k t [] (delete_settled_by f w k t o n)
     delete_settle_onward unsettled (Some s) (Some n) =
         keeps (record t { settled = true }) (still t (record t { settled = true }) refl refl refl refl refl) (λ few. few) (early_alike f t (record t { settled = true }) refl refl refl unsettled) (delete_settled_by f w k t (Some s) (Some n)) refl
-    delete_settle_onward unsettled (Some s) None = as_before
-    delete_settle_onward unsettled None n = as_before
+    delete_settle_onward unsettled o n = as_before
 
     delete_settled_onward : (u : Ticket) → IsOut w k u → u.settled ≡ false → Onward f k t [] (delete_settled f w k (fin.get w.tickets k))
     delete_settled_onward u out unsettled = subst (λ (o : Option Ticket). Onward f k t [] (delete_settled f w k o)) (sym there) (delete_settle_onward (unsettled_of u out unsettled) (swap f t) t.raised)
@@ -306,11 +301,6 @@ module _ (f : Formats) (size : ℕ) (known : (place name : Bytes) (number : ℕ)
 
   pub own_step : (k : ℕ) (t : Ticket) (there : fin.get w.tickets k ≡ Some t) (step : Step) (reply : Reply) (image : Option Image) → IsUnits step → Allows f size w k step reply image
       → OwnStep k t there step reply (answered f w k step reply image)
-  own_step k t there (AskStep command) reply image unit a = absurd unit
-  own_step k t there TakeStep reply image unit a = absurd unit
-  own_step k t there ElectStep reply image unit a = absurd unit
-  own_step k t there LookStep reply image unit a = absurd unit
-  own_step k t there (ReadStep read) reply image unit a = absurd unit
   own_step k t there (PruneStep prune) reply image unit (allowed.Pruning j p rep im h) = pruning_step k t there prune reply image h
   own_step k t there (DrawStep n) reply image unit (allowed.Drawing j m first im d same) = (
     besides k t there (with_given w k (λ (x : Ticket). record x { first = w.next_id; drawn = n }) (fin.get w.tickets k))
@@ -355,3 +345,4 @@ module _ (f : Formats) (size : ℕ) (known : (place name : Bytes) (number : ℕ)
   own_step k t there DroppedStep reply image unit (allowed.DropFails j im d same) =
       let up : World = dropped_of w k (fin.get w.tickets k) in
       (fallen_onward k t there up w (has_text image (f.cluster.text (record_of up))) (dropped_onward k t there) (as_before k t there), single k t there DropKey (inr (inr (inr (inr (inl refl))))))
+  own_step k t there step reply image unit a = absurd unit

@@ -16,7 +16,7 @@ use Rattle.esr_core.specs.Pruning.{dooms}
 use Rattle.esr_core.specs.Tracked.{Tracked}
 use Rattle.esr_core.specs.ReadTracked.{ReadTracked}
 use Rattle.esr_core.specs.Changes.{IsUnits, IsNewTicket, SameUnit, Maker, ClientStep, ReaderStep, UnitStep}
-use Rattle.esr_core.specs.Entry.{ReadBlob, RestoredShard, ReadFails, Prune, FetchShard, RemoveDoomed, Step, ListStep, ReadStep, PruneStep, Reply, Entry, Moment}
+use Rattle.esr_core.specs.Entry.{ReadBlob, Prune, FetchShard, RemoveDoomed, Step, ListStep, ReadStep, PruneStep, Reply, Entry, Moment}
 use Rattle.esr_core.specs.After.{answered, after}
 use Rattle.esr_core.specs.Allowed as allowed
 use Rattle.esr_core.specs.Allowed.{Told, FetchesShard, ListsPage, RemovesDoomed, PruneAllows, Allows, Allowed}
@@ -67,7 +67,6 @@ module _ (f : Formats) (size : ℕ) (w : World) where
   prunes k t there (FetchShard name) reply image told (allowed.FetchingShard j n im g found) = fetches f size w k t there name g
   prunes k t there (FetchShard name) reply image told (allowed.ShardMissing j n im g gone) = fetches f size w k t there name g
   prunes k t there (FetchShard name) reply image told (allowed.FetchShardFails j n im g same) = fetches f size w k t there name g
-  prunes k t there (RemoveDoomed []) reply image told a = tt
   prunes k t there (RemoveDoomed (name ∷ names)) reply image told (allowed.RemovingDoomed j ns im r removed) = removes f size w k t there name names image told r
   prunes k t there (RemoveDoomed (name ∷ names)) reply image told (allowed.RemoveDoomedFails j ns im r some) = removes f size w k t there name names image told r
   prunes k t there prune reply image told a = tt
@@ -77,9 +76,6 @@ module _ (f : Formats) (size : ℕ) (w : World) where
   does_prune k t there (ListStep from) reply image told (allowed.ListFails j start im g same) = lists f size w k t there from g
   does_prune k t there (PruneStep prune) reply image told (allowed.Pruning j p rep im h) = prunes k t there prune reply image told h
   does_prune k t there (ReadStep (ReadBlob name)) reply image told a = tt
-  does_prune k t there (ReadStep (RestoredShard files bytes)) reply image told a = tt
-  does_prune k t there (ReadStep (ReadFails why)) reply image told a = tt
-  does_prune k t there (ReadStep read) reply image told a = tt
   does_prune k t there step reply image told a = tt
 
 -- what it has done stays so

@@ -1,12 +1,12 @@
 -- The shards that tickets of restores have are those of the restores that were accepted.
-use Rattle.std.proofs.Common.{◌≡◌, ℕ, suc, ◌+◌, ◌<◌, ◌≤◌, List, [], ◌∷◌, ◌++◌, append-nil, append_assoc, length, map, Bool, true, false, true≢false, Option, Some, refl, sym, ap, ◌∙◌, subst, inl, inr, arith, nat_cmp}
+use Rattle.std.proofs.Common.{◌≡◌, ℕ, suc, ◌+◌, ◌<◌, ◌≤◌, List, [], ◌∷◌, ◌++◌, append-nil, append_assoc, length, map, Bool, true, false, Option, Some, refl, ap, ◌∙◌, subst, inl, inr, arith, nat_cmp, sym}
 use Rattle.std.specs.Prelude.{if◌then◌else◌}
 use Rattle.std.proofs.lemmas.List.{length-append, length-map}
 use Rattle.std.specs.FinMap.{FinMap}
 use Rattle.std.specs.FinMap as fin
 use Rattle.std.proofs.lemmas.Option.{same_Some, none-some}
 use Rattle.esr_model.specs.Lists.{Has-left, Has-right, Has-map, Has-mapped}
-use Rattle.esr_model.specs.Values.{Bytes, Has, IndexRef, Formats}
+use Rattle.esr_model.specs.Values.{Has, IndexRef, Formats}
 use Rattle.esr_model.specs.Places.{places}
 use Rattle.esr_model.specs.Kept.{first_id}
 use Rattle.esr_model.specs.Image.{Image}
@@ -14,11 +14,11 @@ use Rattle.esr_core.specs.World.{World, RestoreShard, Restoring, Reader}
 use Rattle.esr_core.specs.Restores.{restore_of, any_waits, unread, handed, ended}
 use Rattle.esr_core.specs.Tracked.{Tracked}
 use Rattle.esr_core.specs.ReadTracked.{ReadTracked}
-use Rattle.esr_core.specs.Changes.{IsAsk, StepChange, NoChange, NewOp, NewDeletion, MergedDeletion, NewRestore, NewTicket, NewReader, OwnTicket, Settlement, UnitEnd, DeletionFailure, OpDrop, Election, ReaderFetch, ReaderEnd, PlainDraw, TestBlob, SwapFault}
-use Rattle.esr_core.specs.Entry.{Asked, Snapshot, Clone, DeleteSnapshots, Restore, Cleanup, Step, AskStep, Reply, AcceptedRestore, Moment}
+use Rattle.esr_core.specs.Changes.{IsAsk, StepChange, NewOp, NewDeletion, MergedDeletion, NewRestore, NewReader, ReaderEnd, SwapFault}
+use Rattle.esr_core.specs.Entry.{Asked, Restore, Step, AskStep, Reply, AcceptedRestore, Moment}
 use Rattle.esr_core.specs.After.{answered, after}
 use Rattle.esr_core.specs.Allowed as allowed
-use Rattle.esr_core.specs.Allowed.{RestoreAllows, Allows, Allowed}
+use Rattle.esr_core.specs.Allowed.{Allows, Allowed}
 use Rattle.esr_core.specs.History.{world_from, IsLegal}
 use Rattle.esr_core.specs.Laws.RestoreFrames.{goes_answered}
 use Rattle.esr_core.specs.Laws.NumberMaps.{same_in, was_in, left_in, gone_in, nothing}
@@ -73,24 +73,14 @@ module _ (f : Formats) (w : World) (reads : ReadTracked w) where
   end_none o r x v false there now = none_there v (left_in w.restores o w.next_op v now).1
 
   by_ask : (who : ℕ) (step : Step) (new : World) → StepChange f w who step new → (v : Restoring) → fin.get new.restores w.next_op ≡ Some v → IsAsk step
-  by_ask who step new NoChange v now = absurd (none_there v now)
   by_ask who step new (NewOp ask op completed next_id is rises) v now = ask
   by_ask who step new (NewDeletion ask ops x aborts clean) v now = ask
   by_ask who step new (MergedDeletion ask ops d x y aborts there clean failed) v now = ask
   by_ask who step new (NewRestore ask r) v now = ask
-  by_ask who step new (NewTicket take t is ops same) v now = absurd (none_there v now)
   by_ask who step new (NewReader take o r s there) v now = absurd (put_none o r (record r { shards = map (handed w.next_ticket s.ref.id s.number) r.shards }) v there now)
-  by_ask who step new (OwnTicket t u there same is next pending up more) v now = absurd (none_there v now)
-  by_ask who step new (Settlement settle t s n names deletes there is raised left) v now = absurd (none_there v now)
-  by_ask who step new (UnitEnd t op u completed there standing same) v now = absurd (none_there v now)
-  by_ask who step new (DeletionFailure t x there standing) v now = absurd (none_there v now)
-  by_ask who step new (OpDrop drop t there) v now = absurd (none_there v now)
-  by_ask who step new (Election elect) v now = absurd (none_there v now)
-  by_ask who step new (ReaderFetch q name bytes there) v now = absurd (none_there v now)
   by_ask who step new (ReaderEnd q r state there standing) v now = absurd (end_none q.op r (record r { shards = map (ended who state) r.shards }) v (any_waits (map (ended who state) r.shards)) standing now)
-  by_ask who step new (PlainDraw next pending up more) v now = absurd (none_there v now)
-  by_ask who step new (TestBlob name is) v now = absurd (none_there v now)
   by_ask who step new (SwapFault swaps up change) v now = by_ask who step up change v now
+  by_ask who step new other v now = absurd (none_there v now)
 
   opened_at : (r v : Restoring) (b : Bool) → fin.get (if b then fin.insert w.restores w.next_op r else fin.remove w.restores w.next_op) w.next_op ≡ Some v → r ≡ v
   opened_at r v true now = same_Some r v (sym (same_in w.restores w.next_op r) ∙ now)
@@ -99,32 +89,21 @@ module _ (f : Formats) (w : World) (reads : ReadTracked w) where
   abbrev AskedAt : ℕ → Asked → Reply → Option Image → Type 0
   AskedAt who command reply image = (v : Restoring) → fin.get (answered f w who (AskStep command) reply image).restores w.next_op ≡ Some v → (s : RestoreShard) → Has v.shards s → Has (restored_at reply) (shard_item w.next_op s)
 
-  by_restore : (who : ℕ) (name place : Bytes) (reply : Reply) (image : Option Image) → RestoreAllows f w name reply image → AskedAt who (Restore name place) reply image
-  by_restore who name place reply image (allowed.OpeningRestore o uuid indices im acc) v now s had =
-      let mine : restore_of uuid place indices ≡ v = opened_at (restore_of uuid place indices) v (any_waits (restore_of uuid place indices).shards) now in
-      let p = Has-mapped unread (places indices) s (subst (λ (x : Restoring). Has x.shards s) (sym mine) had) in
-      subst (Has (map (restored_item o) (places indices))) (item_is o p.0 s acc.number p.2) (Has-map (restored_item o) (places indices) p.0 p.1)
-    where
-      item_is : (o : ℕ) (p : IndexRef × ℕ) (s : RestoreShard) → o ≡ w.next_op → unread p ≡ s → restored_item o p ≡ shard_item w.next_op s
-      item_is o p s number is = ap (λ (x : ℕ). restored_item x p) number ∙ ap (shard_item w.next_op) is
-  by_restore who name place reply image (allowed.NotListed im none) v now s had = absurd (none_there v now)
-  by_restore who name place reply image (allowed.NamedByDelete uuid d im listed by) v now s had = absurd (none_there v now)
-  by_restore who name place reply image (allowed.FullOfRestores uuid im listed spared full) v now s had = absurd (none_there v now)
-
   module _ (size : ℕ) (tracked : Tracked w) where
     room : w.next_id ≤ first_id (suc w.term)
     room = let below : w.next_id < first_id (suc w.term) = tracked.in_term.below in omega (arith, below)
 
     by_command : (who : ℕ) (command : Asked) (reply : Reply) (image : Option Image) → Allows f size w who (AskStep command) reply image → AskedAt who command reply image
-    by_command who (Restore name place) reply image (allowed.AskingRestore n p rep im h same) v now s had = by_restore who name place reply image h v now s had
-    by_command who (Restore name place) reply image (allowed.Cleaning c d x im recorded untaken there clean same) v now s had = absurd (true≢false (sym recorded))
-    by_command who (Snapshot name indices moment) reply image a v now s had =
-        absurd (none_there v (subst (λ (m : FinMap nat_cmp Restoring). fin.get m w.next_op ≡ Some v) (goes_answered f w room who (AskStep (Snapshot name indices moment)) reply image tt).restores now))
-    by_command who (Clone source name indices moment taken) reply image a v now s had =
-        absurd (none_there v (subst (λ (m : FinMap nat_cmp Restoring). fin.get m w.next_op ≡ Some v) (goes_answered f w room who (AskStep (Clone source name indices moment taken)) reply image tt).restores now))
-    by_command who (DeleteSnapshots names) reply image a v now s had =
-        absurd (none_there v (subst (λ (m : FinMap nat_cmp Restoring). fin.get m w.next_op ≡ Some v) (goes_answered f w room who (AskStep (DeleteSnapshots names)) reply image tt).restores now))
-    by_command who Cleanup reply image a v now s had = absurd (none_there v (subst (λ (m : FinMap nat_cmp Restoring). fin.get m w.next_op ≡ Some v) (goes_answered f w room who (AskStep Cleanup) reply image tt).restores now))
+    by_command who (Restore name place) reply image (allowed.OpeningRestore n at o uuid indices im acc same) v now s had =
+        let mine : restore_of uuid at indices ≡ v = opened_at (restore_of uuid at indices) v (any_waits (restore_of uuid at indices).shards) now in
+        let p = Has-mapped unread (places indices) s (subst (λ (x : Restoring). Has x.shards s) (sym mine) had) in
+        subst (Has (map (restored_item o) (places indices))) (item_is o p.0 s acc.number p.2) (Has-map (restored_item o) (places indices) p.0 p.1)
+      where
+        item_is : (o : ℕ) (p : IndexRef × ℕ) (s : RestoreShard) → o ≡ w.next_op → unread p ≡ s → restored_item o p ≡ shard_item w.next_op s
+        item_is o p s number is = ap (λ (x : ℕ). restored_item x p) number ∙ ap (shard_item w.next_op) is
+    by_command who (Restore name place) reply image (allowed.Ruled command refusal im (allowed.NotListed n at none) same) v now s had = absurd (none_there v now)
+    by_command who (Restore name place) reply image (allowed.Ruled command refusal im rule same) v now s had = absurd (none_there v now)
+    by_command who command reply image a v now s had = absurd (none_there v (subst (λ (m : FinMap nat_cmp Restoring). fin.get m w.next_op ≡ Some v) (goes_answered f w room who (AskStep command) reply image tt).restores now))
 
     by_step : (who : ℕ) (step : Step) (reply : Reply) (image : Option Image) → IsAsk step → Allows f size w who step reply image → (v : Restoring) → fin.get (answered f w who step reply image).restores w.next_op ≡ Some v
         → (s : RestoreShard) → Has v.shards s → Has (restored_at reply) (shard_item w.next_op s)

@@ -8,10 +8,10 @@ use Rattle.esr_model.specs.Values.{Has, IndexRef, RootIndex, RootData, SnapInfo,
 use Rattle.esr_model.specs.Shelf.{Command}
 use Rattle.esr_model.specs.Delete.{PrunedShard, own_id, next_after, fresh_in, set_fresh, renewed, left_root, deleted_root}
 use Rattle.esr_model.specs.Finalize.{finalized_root, finalized_indices, named_first, ref_of, with_ref, has_id, new_indices}
-use Rattle.esr_core.specs.World.{World, Op, Work, Shard, Finalize, Deleting, Drop, Ticket, Swap, swap, swap_of, metadata}
+use Rattle.esr_core.specs.World.{World, Op, Work, Finalize, Deleting, Ticket, Swap, swap, swap_of, metadata}
 use Rattle.esr_core.specs.Tracked.{Tracked}
 use Rattle.esr_core.specs.ReadTracked.{ReadTracked}
-use Rattle.esr_core.specs.Changes.{StepChange, NoChange, NewOp, NewDeletion, MergedDeletion, NewRestore, NewTicket, NewReader, OwnTicket, Settlement, UnitEnd, DeletionFailure, OpDrop, Election, ReaderFetch, ReaderEnd, PlainDraw, TestBlob, SwapFault}
+use Rattle.esr_core.specs.Changes.{StepChange, Settlement, SwapFault}
 use Rattle.esr_core.specs.Entry.{Step, Moment}
 use Rattle.esr_core.specs.After.{answered, after}
 use Rattle.esr_core.specs.Allowed.{Allowed}
@@ -116,34 +116,18 @@ module _ (f : Formats) (size : ℕ) (laws : StepLaws f size) (masters : MasterLa
     swapped k t s there = by t.work refl
       where
         by : (work : Work) → t.work ≡ work → swap_of f work t.root ≡ Some s → IndicesIn ids s.root
-        by (Shard index number) is e = absurd (none-some s e)
-        by Drop is e = absurd (none-some s e)
         by (Finalize info results made) is e =
             subst (λ (x : Swap). IndicesIn ids x.root) (same_Some (record { root = finalized_root t.root info results; own = metadata f info; commands = made ∷ [] }) s e)
             (final_indices ids t.root info results (indexed.tickets k t there) (indexed.finals k t info results made there is))
         by (Deleting uuids plan) is e =
             let p : IsPlan t.root uuids s = pruned.few k t (once.numbered k t there) there uuids s (is ∙ ap (Deleting uuids) e) in
             subst (IndicesIn ids) (sym p.root_is) (deleted_indices ids t.root uuids p.shards p.first (indexed.tickets k t there))
+        by work is e = absurd (none-some s e)
 
     root_now : (who : ℕ) (step : Step) (new : World) → StepChange f w who step new → IndicesIn ids new.root
-    root_now who step new NoChange = indexed.root
-    root_now who step new (NewOp ask op completed next_id is rises) = indexed.root
-    root_now who step new (NewDeletion ask ops x aborts clean) = indexed.root
-    root_now who step new (MergedDeletion ask ops d x y aborts there clean failed) = indexed.root
-    root_now who step new (NewRestore ask r) = indexed.root
-    root_now who step new (NewTicket take t is ops same) = indexed.root
-    root_now who step new (NewReader take o r s there) = indexed.root
-    root_now who step new (OwnTicket t u there same is next pending up more) = indexed.root
     root_now who step new (Settlement settle t s n names deletes there is raised left) = swapped who t s there is
-    root_now who step new (UnitEnd t op u completed there standing same) = indexed.root
-    root_now who step new (DeletionFailure t x there standing) = indexed.root
-    root_now who step new (OpDrop drop t there) = indexed.root
-    root_now who step new (Election elect) = indexed.root
-    root_now who step new (ReaderFetch q name bytes there) = indexed.root
-    root_now who step new (ReaderEnd q r state there standing) = indexed.root
-    root_now who step new (PlainDraw next pending up more) = indexed.root
-    root_now who step new (TestBlob name is) = indexed.root
     root_now who step new (SwapFault swaps up change) = root_now who step up change
+    root_now who step new other = indexed.root
 
     tickets_now : (k : ℕ) (v : Ticket) → fin.get (after f w m).tickets k ≡ Some v → IndicesIn now_ids v.root
     tickets_now k v there = elim ((masters.frame w m).come k v there) [

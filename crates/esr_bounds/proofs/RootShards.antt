@@ -12,11 +12,11 @@ use Rattle.esr_model.specs.Shelf.{Command}
 use Rattle.esr_model.specs.Image.{index_at, at_shard, at_shard_of, Generation, AllPairs}
 use Rattle.esr_model.specs.Delete.{PrunedShard, own_id, next_after, fresh_in, set_fresh, renewed, left_root, deleted_root}
 use Rattle.esr_model.specs.Finalize.{finalized_root, finalized_indices, named_first, larger, done_at, merged, ref_of, with_ref, has_id, new_indices}
-use Rattle.esr_core.specs.World.{World, Op, ShardWork, Done, AllDone, Work, Shard, Finalize, Deleting, Drop, Ticket, Swap, swap, swap_of, metadata}
+use Rattle.esr_core.specs.World.{World, Op, ShardWork, Done, AllDone, Work, Finalize, Deleting, Ticket, Swap, swap, swap_of, metadata}
 use Rattle.esr_core.specs.Pruning.{AreOfRoot}
 use Rattle.esr_core.specs.Tracked.{Tracked}
 use Rattle.esr_core.specs.ReadTracked.{ReadTracked}
-use Rattle.esr_core.specs.Changes.{StepChange, NoChange, NewOp, NewDeletion, MergedDeletion, NewRestore, NewTicket, NewReader, OwnTicket, Settlement, UnitEnd, DeletionFailure, OpDrop, Election, ReaderFetch, ReaderEnd, PlainDraw, TestBlob, SwapFault}
+use Rattle.esr_core.specs.Changes.{StepChange, Settlement, SwapFault}
 use Rattle.esr_core.specs.Entry.{Step, Moment}
 use Rattle.esr_core.specs.After.{answered, after}
 use Rattle.esr_core.specs.Allowed.{Allowed}
@@ -146,11 +146,9 @@ module _ (places : List (ℕ × ℕ)) (root : RootData) (info : SnapInfo) (resul
 -- ---- the root of a delete or cleanup
 
 set_or : (gs : List (Option ℕ)) (k n g : ℕ) (to : Option ℕ) → at_shard (set gs k to) n ≡ Some g → (n ≡ k) ⊎ (at_shard gs n ≡ Some g)
-set_or [] k n g to e = inr e
 set_or (x ∷ gs) zero zero g to e = inl refl
-set_or (x ∷ gs) zero (suc n) g to e = inr e
-set_or (x ∷ gs) (suc k) zero g to e = inr e
 set_or (x ∷ gs) (suc k) (suc n) g to e = elim (set_or gs k n g to e) [ inl same ↦ inl (ap suc same) | inr old ↦ inr old ]
+set_or gs k n g to e = inr e
 
 module _ (places : List (ℕ × ℕ)) where
   fresh_rooted : (root : RootData) → RootIn places root → (i k : ℕ) (to : Option ℕ) → Has places (i, k) → RootIn places (set_fresh i k to root)
@@ -232,8 +230,6 @@ module _ (f : Formats) (size : ℕ) (laws : StepLaws f size) (masters : MasterLa
     swapped k t s there = by t.work refl
       where
         by : (work : Work) → t.work ≡ work → swap_of f work t.root ≡ Some s → RootIn places s.root × IsOneEach s.root.indices
-        by (Shard index number) is e = absurd (none-some s e)
-        by Drop is e = absurd (none-some s e)
         by (Finalize info results made) is e =
             let h = placed.finals k t info results made there is in
             subst (λ (x : Swap). RootIn places x.root × IsOneEach x.root.indices) (same_Some (record { root = finalized_root t.root info results; own = metadata f info; commands = made ∷ [] }) s e)
@@ -241,26 +237,12 @@ module _ (f : Formats) (size : ℕ) (laws : StepLaws f size) (masters : MasterLa
         by (Deleting uuids plan) is e =
             let p : IsPlan t.root uuids s = pruned.few k t (once.numbered k t there) there uuids s (is ∙ ap (Deleting uuids) e) in
             (subst (RootIn places) (sym p.root_is) (deleted_in places t.root uuids p.shards p.first (placed.tickets k t there).0 p.of_root), p.one_each)
+        by work is e = absurd (none-some s e)
 
     root_now : (who : ℕ) (step : Step) (new : World) → StepChange f w who step new → RootIn places new.root × IsOneEach new.root.indices
-    root_now who step new NoChange = (placed.root, placed.one_each)
-    root_now who step new (NewOp ask op completed next_id is rises) = (placed.root, placed.one_each)
-    root_now who step new (NewDeletion ask ops x aborts clean) = (placed.root, placed.one_each)
-    root_now who step new (MergedDeletion ask ops d x y aborts there clean failed) = (placed.root, placed.one_each)
-    root_now who step new (NewRestore ask r) = (placed.root, placed.one_each)
-    root_now who step new (NewTicket take t is ops same) = (placed.root, placed.one_each)
-    root_now who step new (NewReader take o r s there) = (placed.root, placed.one_each)
-    root_now who step new (OwnTicket t u there same is next pending up more) = (placed.root, placed.one_each)
     root_now who step new (Settlement settle t s n names deletes there is raised left) = swapped who t s there is
-    root_now who step new (UnitEnd t op u completed there standing same) = (placed.root, placed.one_each)
-    root_now who step new (DeletionFailure t x there standing) = (placed.root, placed.one_each)
-    root_now who step new (OpDrop drop t there) = (placed.root, placed.one_each)
-    root_now who step new (Election elect) = (placed.root, placed.one_each)
-    root_now who step new (ReaderFetch q name bytes there) = (placed.root, placed.one_each)
-    root_now who step new (ReaderEnd q r state there standing) = (placed.root, placed.one_each)
-    root_now who step new (PlainDraw next pending up more) = (placed.root, placed.one_each)
-    root_now who step new (TestBlob name is) = (placed.root, placed.one_each)
     root_now who step new (SwapFault swaps up change) = root_now who step up change
+    root_now who step new other = (placed.root, placed.one_each)
 
     tickets_now : (k : ℕ) (v : Ticket) → fin.get (after f w m).tickets k ≡ Some v → RootIn now_places v.root × IsOneEach v.root.indices
     tickets_now k v there = elim ((masters.frame w m).come k v there) [

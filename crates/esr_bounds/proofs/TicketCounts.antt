@@ -8,7 +8,7 @@ use Rattle.esr_model.specs.Lists.{Has-either}
 use Rattle.esr_model.specs.Values.{Has, Formats}
 use Rattle.esr_core.specs.World.{World, Restoring, Reader, Work, Shard, Finalize, Deleting, Drop, Ticket, Swap}
 use Rattle.esr_core.specs.Restores.{AreOnce, reader_of, read_more}
-use Rattle.esr_core.specs.Changes.{StepChange, NoChange, NewOp, NewDeletion, MergedDeletion, NewRestore, NewTicket, NewReader, OwnTicket, Settlement, UnitEnd, DeletionFailure, OpDrop, Election, ReaderFetch, ReaderEnd, PlainDraw, TestBlob, SwapFault}
+use Rattle.esr_core.specs.Changes.{StepChange, NewTicket, NewReader, OwnTicket, Settlement, UnitEnd, DeletionFailure, OpDrop, ReaderFetch, ReaderEnd, SwapFault}
 use Rattle.esr_core.specs.Entry.{Given, Step, Gave, Moment}
 use Rattle.esr_core.specs.After.{answered, after}
 use Rattle.esr_core.specs.Causes.{TakeGave}
@@ -57,17 +57,13 @@ nones w (suc k) = none_at (fin.get w.tickets (suc k)) (fin.get w.readers (suc k)
 -- ---- each stands once
 
 single_delete : (t : Ticket) (work : Work) → AreOnce (delete_of_ticket t work)
-single_delete t (Shard index number) = tt
-single_delete t (Finalize info results made) = tt
 single_delete t (Deleting uuids plan) = ((λ h. h), tt)
-single_delete t Drop = tt
+single_delete t work = tt
 
 delete_is : (t : Ticket) (work : Work) (x : ℕ × ℕ) → Has (delete_of_ticket t work) x → IsDelete work × ((t.op ≡ x.0) × (t.term ≡ x.1))
 delete_is t (Deleting uuids plan) x (inl e) = (tt, (ap (λ (i : ℕ × ℕ). i.0) e, ap (λ (i : ℕ × ℕ). i.1) e))
 delete_is t (Deleting uuids plan) x (inr h) = absurd h
-delete_is t (Shard index number) x h = absurd h
-delete_is t (Finalize info results made) x h = absurd h
-delete_is t Drop x h = absurd h
+delete_is t work x h = absurd h
 
 deletes_once : (w : World) → MastersOnce w → (n : ℕ) → AreOnce (upto delete_of_ticket w.tickets n)
 deletes_once w masters = once_upto delete_of_ticket w.tickets (λ t. single_delete t t.work) (λ j k t u x at_j at_k a b.
@@ -189,11 +185,6 @@ module _ (f : Formats) (w : World) (from : ℕ) (given : AreGiven from w) where
   less_or j k below apart = let less : j < suc k = below in let differ : j ≡ k → ⊥ = apart in omega (arith, less, differ)
 
   given_on : (who : ℕ) (step : Step) (new : World) → StepChange f w who step new → AreGiven from new
-  given_on who step new NoChange k low high a b = given k low high a b
-  given_on who step new (NewOp ask op completed next_id is rises) k low high a b = given k low high a b
-  given_on who step new (NewDeletion ask ops x aborts clean) k low high a b = given k low high a b
-  given_on who step new (MergedDeletion ask ops d x y aborts there clean failed) k low high a b = given k low high a b
-  given_on who step new (NewRestore ask r) k low high a b = given k low high a b
   given_on who step new (NewTicket take t is ops same) k low high a b = elim (eqb_tells k w.next_ticket) [
     | inl here ↦ some_none t (sym (same_in w.tickets w.next_ticket t) ∙ subst (λ (n : ℕ). fin.get (fin.insert w.tickets w.next_ticket t) n ≡ None) here.1 a)
     | inr other ↦ given k low (less_or k w.next_ticket high other.1) (put_here w.next_ticket t k a) b
@@ -207,12 +198,10 @@ module _ (f : Formats) (w : World) (from : ℕ) (given : AreGiven from w) where
   given_on who step new (UnitEnd t op u completed there standing same) k low high a b = given k low high (put_here who (record t { out = false }) k a) b
   given_on who step new (DeletionFailure t x there standing) k low high a b = given k low high (put_here who (record t { out = false }) k a) b
   given_on who step new (OpDrop drop t there) k low high a b = given k low high (put_here who (record t { out = false }) k a) b
-  given_on who step new (Election elect) k low high a b = given k low high a b
   given_on who step new (ReaderFetch q name bytes there) k low high a b = given k low high a (read_here who (read_more q name bytes) k b)
   given_on who step new (ReaderEnd q r state there standing) k low high a b = given k low high a (read_here who (record q { out = false }) k b)
-  given_on who step new (PlainDraw next pending up more) k low high a b = given k low high a b
-  given_on who step new (TestBlob name is) k low high a b = given k low high a b
   given_on who step new (SwapFault swaps up change) k low high a b = given_on who step up change k low high a b
+  given_on who step new other k low high a b = given k low high a b
 
 given_from : (f : Formats) (size : ℕ) → MasterLaws f size → (from : ℕ) (w : World) (log : List Moment) → AreGiven from w → AreGiven from (world_from f w log)
 given_from f size laws from w [] given = given
@@ -222,9 +211,8 @@ given_from f size laws from w (m ∷ log) given =
 
 module _ (from : ℕ) (w : World) (given : AreGiven from w) (first : 1 ≤ from) where
   at_given : (k : ℕ) → from ≤ k → k < w.next_ticket → (ticket : Option Ticket) (reader : Option Reader) → fin.get w.tickets k ≡ ticket → fin.get w.readers k ≡ reader → none_at ticket reader ≡ 0
-  at_given k low high (Some t) reader there reads = refl
-  at_given k low high None (Some q) there reads = refl
   at_given k low high None None there reads = absurd (given k low high there reads)
+  at_given k low high ticket reader there reads = refl
 
   one_at : (ticket : Option Ticket) (reader : Option Reader) → none_at ticket reader ≤ 1
   one_at (Some t) reader = let is : 0 ≤ 1 = omega arith in is
@@ -295,9 +283,7 @@ module _ (f : Formats) (size : ℕ) (known : AllKnown f) (steps : StepLaws f siz
       subst (Has (drops_in w.term terms last.next_op)) e
       (in_drops w.term terms last.next_op t.op t.term ((tracked_last f size known steps masters gave w log h).begun k t there) (term_in f size known steps masters gave w log h k t there))
   delete_in t (Deleting uuids plan) k x is there (inr never) = absurd never
-  delete_in t (Shard index number) k x is there never = absurd never
-  delete_in t (Finalize info results made) k x is there never = absurd never
-  delete_in t Drop k x is there never = absurd never
+  delete_in t work k x is there never = absurd never
 
   pub deletes_few : (c n : ℕ) → total (even c) (upto delete_of_ticket last.tickets n) ≤ (w.next_op + asks_in log) * (terms * c)
   deletes_few c n =

@@ -2,7 +2,7 @@
 use Rattle.std.proofs.Common.{◌≡◌, ℕ, zero, suc, ◌+◌, ◌*◌, ◌≤◌, List, length, Option, Some, None, refl, arith}
 use Rattle.std.specs.FinMap as fin
 use Rattle.esr_model.specs.Values.{Formats}
-use Rattle.esr_core.specs.World.{World, Work, Shard, Finalize, Deleting, Drop, Reader, Ticket}
+use Rattle.esr_core.specs.World.{World, Work, Deleting, Reader, Ticket}
 use Rattle.esr_core.specs.Entry.{Given, Gave, Moment}
 use Rattle.esr_core.specs.Causes.{TakeGave}
 use Rattle.esr_core.specs.Allowed.{Allowed}
@@ -25,10 +25,8 @@ module _ (f : Formats) (size : ℕ) (known : AllKnown f) (steps : StepLaws f siz
   last = world_from f w log
 
   of_work : (k : ℕ) (t : Ticket) → 1 ≤ k → fin.get last.tickets k ≡ Some t → (work : Work) → t.work ≡ work → made_if_delete log k work ≤ most_if_delete f t work
-  of_work k t some there (Shard index number) is = no_more
-  of_work k t some there (Finalize info results made) is = no_more
   of_work k t some there (Deleting uuids plan) is = one_more (made_by log k) (most_of_delete f t) (delete_few f size known steps masters w log h told k t some there uuids plan is)
-  of_work k t some there Drop is = no_more
+  of_work k t some there work is = no_more
 
   one_few : (k : ℕ) → 1 ≤ k → (ticket : Option Ticket) (reader : Option Reader) → fin.get last.tickets k ≡ ticket → fin.get last.readers k ≡ reader → made_besides log k ticket ≤ most_besides f ticket reader
   one_few k some (Some t) reader there reads = of_work k t some there t.work refl

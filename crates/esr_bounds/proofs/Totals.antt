@@ -14,8 +14,8 @@ use Rattle.esr_core.specs.World.{World, Op, ShardWork, RestoreShard, Restoring, 
 use Rattle.esr_core.specs.Restores.{AreOnce, restore_shard}
 use Rattle.esr_core.specs.Tracked.{Tracked}
 use Rattle.esr_core.specs.ReadTracked.{ReadTracked}
-use Rattle.esr_core.specs.Changes.{IsAsk, StepChange, NoChange, NewOp, NewDeletion, MergedDeletion, NewRestore, NewTicket, NewReader, OwnTicket, Settlement, UnitEnd, DeletionFailure, OpDrop, Election, ReaderFetch, ReaderEnd, PlainDraw, TestBlob, SwapFault}
-use Rattle.esr_core.specs.Entry.{AskedIndex, Snapshot, Clone, DeleteSnapshots, Restore, Cleanup, Given, GivenShard, GivenClone, GivenFinalize, GivenDrop, GivenRestore, GivenDelete, GivenCleanup, Step, AskStep, ElectStep, Reply, Gave, Moment}
+use Rattle.esr_core.specs.Changes.{IsAsk, StepChange, NewOp, NewDeletion, NewRestore, Election, SwapFault}
+use Rattle.esr_core.specs.Entry.{AskedIndex, Snapshot, Clone, Given, GivenShard, GivenClone, GivenFinalize, GivenRestore, Step, AskStep, ElectStep, Reply, Gave, Moment}
 use Rattle.esr_core.specs.Causes.{TakeGave}
 use Rattle.esr_core.specs.After.{ref_by, known_id, next_by, refs_from, pending_shards, all_pending, copied_shard, shard_of, taken_shard, taken_restore_shard, taken_restore, taken_by, answered, after}
 use Rattle.esr_core.specs.Allowed.{Gives, Allowed}
@@ -166,20 +166,16 @@ module _ (w : World) (given : GivenOnce w) (once : MastersOnce w) where
   single_shard : (t : Ticket) (work : Work) → AreOnce (shard_of_ticket t work)
   single_shard t (Shard index number) = (λ h. h, tt)
   single_shard t (Finalize info results made) = tt
-  single_shard t (Deleting uuids plan) = tt
-  single_shard t Drop = tt
+  single_shard t work = tt
 
   single_final : (t : Ticket) (work : Work) → AreOnce (final_of_ticket t work)
-  single_final t (Shard index number) = tt
   single_final t (Finalize info results made) = (λ h. h, tt)
-  single_final t (Deleting uuids plan) = tt
-  single_final t Drop = tt
+  single_final t work = tt
 
   single_drop : (t : Ticket) (work : Work) → AreOnce (drop_of_ticket t work)
-  single_drop t (Shard index number) = tt
   single_drop t (Finalize info results made) = tt
-  single_drop t (Deleting uuids plan) = tt
   single_drop t Drop = (λ h. h, tt)
+  single_drop t work = tt
 
   -- what a ticket is that has the item
   item_is : (t : Ticket) (work : Work) (x : Item) → Has (shard_of_ticket t work) x → (work ≡ Shard x.index x.number) × (t.op ≡ x.op)
@@ -189,22 +185,18 @@ module _ (w : World) (given : GivenOnce w) (once : MastersOnce w) where
       both = ap (λ (i : Item). Shard i.index i.number) e
   item_is t (Shard index number) x (inr h) = absurd h
   item_is t (Finalize info results made) x h = absurd h
-  item_is t (Deleting uuids plan) x h = absurd h
-  item_is t Drop x h = absurd h
+  item_is t work x h = absurd h
 
   final_is : (t : Ticket) (work : Work) (x : ℕ × (ℕ × ℕ)) → Has (final_of_ticket t work) x → IsFinalize work × ((t.op ≡ x.0) × (t.term ≡ x.1.0))
   final_is t (Finalize info results made) x (inl e) = (tt, (ap (λ (i : ℕ × (ℕ × ℕ)). i.0) e, ap (λ (i : ℕ × (ℕ × ℕ)). i.1.0) e))
   final_is t (Finalize info results made) x (inr h) = absurd h
-  final_is t (Shard index number) x h = absurd h
-  final_is t (Deleting uuids plan) x h = absurd h
-  final_is t Drop x h = absurd h
+  final_is t work x h = absurd h
 
   drop_is : (t : Ticket) (work : Work) (x : ℕ × ℕ) → Has (drop_of_ticket t work) x → IsDropped work × ((t.op ≡ x.0) × (t.term ≡ x.1))
   drop_is t Drop x (inl e) = (tt, (ap (λ (i : ℕ × ℕ). i.0) e, ap (λ (i : ℕ × ℕ). i.1) e))
   drop_is t Drop x (inr h) = absurd h
-  drop_is t (Shard index number) x h = absurd h
   drop_is t (Finalize info results made) x h = absurd h
-  drop_is t (Deleting uuids plan) x h = absurd h
+  drop_is t work x h = absurd h
 
   pub items_once : (n : ℕ) → AreOnce (upto shard_of_ticket w.tickets n)
   items_once = once_upto shard_of_ticket w.tickets (λ t. single_shard t t.work) (λ j k t u x at_j at_k a b.
@@ -357,10 +349,6 @@ module _ (f : Formats) (size : ℕ) (w : World) where
   asked_weight (AskStep (Snapshot name indices moment)) =
       total_map (most_of_item f size) (item_of w.next_op None) (all_pending indices (refs_from w (suc w.next_id) indices)) ∙ indices_weight (suc w.next_id) indices
   asked_weight (AskStep (Clone source name names moment (Some taken))) = clone_weight taken.source taken.indices
-  asked_weight (AskStep (Clone source name names moment None)) = refl
-  asked_weight (AskStep (DeleteSnapshots names)) = refl
-  asked_weight (AskStep (Restore name place)) = refl
-  asked_weight (AskStep Cleanup) = refl
   asked_weight step = refl
 
   length_refs : (next : ℕ) (indices : List AskedIndex) → length (refs_from w next indices) ≡ length indices
@@ -419,44 +407,16 @@ all_weight f size terms w (m ∷ log) =
 
 module _ (f : Formats) (w : World) where
   next_on : (who : ℕ) (step : Step) (new : World) → StepChange f w who step new → (new.next_op ≡ w.next_op) ⊎ (IsAsk step × (new.next_op ≡ suc w.next_op))
-  next_on who step new NoChange = inl refl
   next_on who step new (NewOp ask op completed next_id is rises) = inr (ask, refl)
   next_on who step new (NewDeletion ask ops x aborts clean) = inr (ask, refl)
-  next_on who step new (MergedDeletion ask ops d x y aborts there clean failed) = inl refl
   next_on who step new (NewRestore ask r) = inr (ask, refl)
-  next_on who step new (NewTicket take t is ops same) = inl refl
-  next_on who step new (NewReader take o r s there) = inl refl
-  next_on who step new (OwnTicket t u there same is next pending up more) = inl refl
-  next_on who step new (Settlement settle t s n names deletes there is raised left) = inl refl
-  next_on who step new (UnitEnd t op u completed there standing same) = inl refl
-  next_on who step new (DeletionFailure t x there standing) = inl refl
-  next_on who step new (OpDrop drop t there) = inl refl
-  next_on who step new (Election elect) = inl refl
-  next_on who step new (ReaderFetch q name bytes there) = inl refl
-  next_on who step new (ReaderEnd q r state there standing) = inl refl
-  next_on who step new (PlainDraw next pending up more) = inl refl
-  next_on who step new (TestBlob name is) = inl refl
   next_on who step new (SwapFault swaps up change) = next_on who step up change
+  next_on who step new other = inl refl
 
   elects_on : (who : ℕ) (step : Step) (new : World) → StepChange f w who step new → (new.term ≡ w.term) ⊎ ((step ≡ ElectStep) × (new.term ≡ suc w.term))
-  elects_on who step new NoChange = inl refl
-  elects_on who step new (NewOp ask op completed next_id is rises) = inl refl
-  elects_on who step new (NewDeletion ask ops x aborts clean) = inl refl
-  elects_on who step new (MergedDeletion ask ops d x y aborts there clean failed) = inl refl
-  elects_on who step new (NewRestore ask r) = inl refl
-  elects_on who step new (NewTicket take t is ops same) = inl refl
-  elects_on who step new (NewReader take o r s there) = inl refl
-  elects_on who step new (OwnTicket t u there same is next pending up more) = inl refl
-  elects_on who step new (Settlement settle t s n names deletes there is raised left) = inl refl
-  elects_on who step new (UnitEnd t op u completed there standing same) = inl refl
-  elects_on who step new (DeletionFailure t x there standing) = inl refl
-  elects_on who step new (OpDrop drop t there) = inl refl
   elects_on who step new (Election elect) = inr (elect, refl)
-  elects_on who step new (ReaderFetch q name bytes there) = inl refl
-  elects_on who step new (ReaderEnd q r state there standing) = inl refl
-  elects_on who step new (PlainDraw next pending up more) = inl refl
-  elects_on who step new (TestBlob name is) = inl refl
   elects_on who step new (SwapFault swaps up change) = elects_on who step up change
+  elects_on who step new other = inl refl
 
 ask_one : (step : Step) → IsAsk step → asks_by step ≡ 1
 ask_one (AskStep command) h = refl
@@ -539,11 +499,9 @@ module _ (f : Formats) (size : ℕ) (steps : StepLaws f size) where
   unit_next w o (GivenClone index number source base) g =
       subst (λ (op : Option Op). suc w.next_ticket ≤ (taken_by f w o (GivenClone index number source base) op).next_ticket) (sym g.ready.op_there) (given_shard_next w o g.op base (shard_of g.op.shards index number) g.s g.found)
   unit_next w o (GivenFinalize info results) g = subst (λ (op : Option Op). suc w.next_ticket ≤ (taken_by f w o (GivenFinalize info results) op).next_ticket) (sym g.ready.op_there) (same_le (suc w.next_ticket))
-  unit_next w o GivenDrop g = same_le (suc w.next_ticket)
   unit_next w o (GivenRestore index number uuid) g =
       subst (λ (r : Option Restoring). suc w.next_ticket ≤ (taken_restore w o index number r).next_ticket) (sym g.ready.there) (given_restore_next w o g.r (restore_shard g.r.shards index number) g.s g.found)
-  unit_next w o (GivenDelete uuids) g = same_le (suc w.next_ticket)
-  unit_next w o GivenCleanup g = same_le (suc w.next_ticket)
+  unit_next w o unit g = same_le (suc w.next_ticket)
 
   plus_one : (a b : ℕ) → suc a ≤ b → 1 + a ≤ b
   plus_one a b h = let less : suc a ≤ b = h in omega (arith, less)
@@ -629,23 +587,19 @@ module _ (f : Formats) (size : ℕ) (known : AllKnown f) (steps : StepLaws f siz
   item_in t (Shard index number) k x is there (inl e) = subst (Has (all_items f w log)) e (all.tickets k t index number there is)
   item_in t (Shard index number) k x is there (inr never) = absurd never
   item_in t (Finalize info results made) k x is there never = absurd never
-  item_in t (Deleting uuids plan) k x is there never = absurd never
-  item_in t Drop k x is there never = absurd never
+  item_in t work k x is there never = absurd never
 
   final_in : (t : Ticket) (work : Work) (k : ℕ) (x : ℕ × (ℕ × ℕ)) → t.work ≡ work → fin.get last.tickets k ≡ Some t → Has (final_of_ticket t work) x → Has (finals_in w.term terms (all_counts f w log)) x
   final_in t (Finalize info results made) k x is there (inl e) =
       subst (Has (finals_in w.term terms (all_counts f w log))) e (in_finals w.term terms (all_counts f w log) (t.op, length info.indices) t.term (all.finals k t info results made there is) (term_in k t there))
   final_in t (Finalize info results made) k x is there (inr never) = absurd never
-  final_in t (Shard index number) k x is there never = absurd never
-  final_in t (Deleting uuids plan) k x is there never = absurd never
-  final_in t Drop k x is there never = absurd never
+  final_in t work k x is there never = absurd never
 
   drop_in : (t : Ticket) (work : Work) (k : ℕ) (x : ℕ × ℕ) → t.work ≡ work → fin.get last.tickets k ≡ Some t → Has (drop_of_ticket t work) x → Has (drops_in w.term terms last.next_op) x
   drop_in t Drop k x is there (inl e) = subst (Has (drops_in w.term terms last.next_op)) e (in_drops w.term terms last.next_op t.op t.term (tracked_last.begun k t there) (term_in k t there))
   drop_in t Drop k x is there (inr never) = absurd never
-  drop_in t (Shard index number) k x is there never = absurd never
   drop_in t (Finalize info results made) k x is there never = absurd never
-  drop_in t (Deleting uuids plan) k x is there never = absurd never
+  drop_in t work k x is there never = absurd never
 
   pub items_few : total (most_of_item f size) (upto shard_of_ticket last.tickets last.next_ticket) ≤ total (most_of_item f size) (all_items f w log)
   items_few = light_once (most_of_item f size) (upto shard_of_ticket last.tickets last.next_ticket) (all_items f w log) (items_once last given once last.next_ticket)

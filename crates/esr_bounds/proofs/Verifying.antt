@@ -16,10 +16,10 @@ use Rattle.esr_core.specs.Past.{Repeats, IsNewStep, is_counted, with_entry, begi
 use Rattle.esr_core.specs.ReadTracked.{ReadTracked}
 use Rattle.esr_core.specs.Tracked.{Tracked}
 use Rattle.esr_core.specs.Changes.{StepChange}
-use Rattle.esr_core.specs.Entry.{CloneOf, Asked, Read, ReadBlob, CheckedAll, DrawTest, BeginTest, CommitTest, RemoveTests, VerifiedAll, ReadFails, Step, AskStep, LookStep, ReadStep, Reply, Entry, Moment}
+use Rattle.esr_core.specs.Entry.{Asked, Read, ReadBlob, CheckedAll, DrawTest, BeginTest, CommitTest, RemoveTests, VerifiedAll, ReadFails, Step, AskStep, LookStep, ReadStep, Reply, Entry, Moment}
 use Rattle.esr_core.specs.After.{told_blob, is_heard, caller_told, caller_wrote, caller_read, caller_after, answered, after}
 use Rattle.esr_core.specs.Allowed as allowed
-use Rattle.esr_core.specs.Allowed.{Told, InReach, Fetcher, IsOwnTest, MayRemoveTests, RestoreAllows, CloneAllows, DeleteAllows, CleanupAllows, ReadAllows, VerifyAllows, Allows, Allowed}
+use Rattle.esr_core.specs.Allowed.{Told, InReach, Fetcher, IsOwnTest, MayRemoveTests, ReadAllows, VerifyAllows, Allows, Allowed}
 use Rattle.esr_core.specs.History.{world_from, IsLegal, AreTold}
 use Rattle.esr_core.specs.Laws.PartNames.{in_parts}
 use Rattle.esr_core.specs.Laws.StepFrames.{change_caller}
@@ -123,15 +123,11 @@ module _ (id : ℕ) (name : BlobName) (had : Has (test_names id) name) where
 
 -- no root reaches a test blob
 unreached : (f : Formats) (has : BlobName → Bytes → Type 0) (root : RootData) (name : BlobName) → Reached f has root name → IsTest name → ⊥
-unreached f has root name (reach.ReachSnap s h) test = test
-unreached f has root name (reach.ReachMeta s h) test = test
-unreached f has root name (reach.ReachIndexMeta x u h listed) test = test
-unreached f has root name (reach.ReachIndex i k g h) test = test
-unreached f has root name (reach.ReachShardSnap i k g s held l h reads listed snap is) test = test
 unreached f has root name (reach.ReachPart i k g held e n h reads listed part) test = ⊎_elim
     (λ is. subst IsTest is test)
     (λ is. subst IsTest is.1 test)
     (in_parts i k e name part)
+unreached f has root name other test = test
 
 not_reached : (f : Formats) (w : World) (name : BlobName) → InReach f w name → IsTest name → ⊥
 not_reached f w name (n, safe, which) test = ⊎_elim
@@ -177,11 +173,9 @@ of_step (ReadStep (BeginTest name)) x (inl e) = subst (OfKey (ReadStep (BeginTes
 of_step (ReadStep (BeginTest name)) x (inr h) = absurd h
 of_step (ReadStep (CommitTest name)) x (inl e) = subst (OfKey (ReadStep (CommitTest name))) e refl
 of_step (ReadStep (CommitTest name)) x (inr h) = absurd h
-of_step (ReadStep (RemoveTests [])) x h = absurd h
 of_step (ReadStep (RemoveTests (name ∷ names))) x (inl e) = subst (OfKey (ReadStep (RemoveTests (name ∷ names)))) e (names, refl)
 of_step (ReadStep (RemoveTests (name ∷ names))) x (inr h) = absurd h
 of_step (ReadStep (ReadBlob name)) x h = of_blob name x h
-of_step (ReadStep read) x h = absurd h
 of_step a x h = absurd h
 
 -- an entry of this key
@@ -199,47 +193,9 @@ fresh w step x new again h = let r = of_phase (entries_by w.entries 0) x h in ne
 -- ---- a command is heard
 
 module _ (f : Formats) (size : ℕ) (w : World) where
-  restore_heard : (name : Bytes) (reply : Reply) (image : Option Image) → RestoreAllows f w name reply image → is_heard reply ≡ true
-  restore_heard name reply image (allowed.OpeningRestore o uuid indices im acc) = refl
-  restore_heard name reply image (allowed.NotListed im none) = refl
-  restore_heard name reply image (allowed.NamedByDelete uuid d im listed by) = refl
-  restore_heard name reply image (allowed.FullOfRestores uuid im listed spared full) = refl
-
-  clone_heard : (source name : Bytes) (names : List Bytes) (moment : ℕ) (taken : Option CloneOf) (reply : Reply) (image : Option Image) → CloneAllows f w source name names moment taken reply image → is_heard reply ≡ true
-  clone_heard source name names moment taken reply image (allowed.OpeningClone t o im acc) = refl
-  clone_heard source name names moment taken reply image (allowed.CloneUsed uuid im clear is) = refl
-  clone_heard source name names moment taken reply image (allowed.SourceNotListed im may none) = refl
-  clone_heard source name names moment taken reply image (allowed.SourceDeleted uuid d im may listed by) = refl
-  clone_heard source name names moment taken reply image (allowed.IndexMissing uuid place im may missing) = refl
-  clone_heard source name names moment taken reply image (allowed.FullOfClones uuid im may full) = refl
-  clone_heard source name names moment taken reply image (allowed.CloneSpent uuid im may room spent) = refl
-  clone_heard source name names moment taken reply image (allowed.CloneFault t im acc) = refl
-
-  delete_heard : (names : List Bytes) (reply : Reply) → DeleteAllows w names reply → is_heard reply ≡ true
-  delete_heard names reply (allowed.GoingInto acc) = refl
-  delete_heard names reply (allowed.NotNamed place clear first) = refl
-  delete_heard names reply (allowed.CloneStands o clear by lowest) = refl
-  delete_heard names reply (allowed.RestoreStands o clear by no_clone lowest) = refl
-  delete_heard names reply (allowed.FullOfOps may new full) = refl
-  delete_heard names reply (allowed.DeleteFault acc) = refl
-
-  cleanup_heard : (reply : Reply) → CleanupAllows w reply → is_heard reply ≡ true
-  cleanup_heard reply (allowed.OpeningCleanup acc) = refl
-  cleanup_heard reply (allowed.OpStands o clear lowest) = refl
-  cleanup_heard reply (allowed.TicketStands k none lowest) = refl
-  cleanup_heard reply (allowed.CleanupFault acc) = refl
-
   pub ask_heard : (who : ℕ) (command : Asked) (reply : Reply) (image : Option Image) → Allows f size w who (AskStep command) reply image → is_heard reply ≡ true
-  ask_heard who command reply image (allowed.Accepting name indices moment o im acc same) = refl
-  ask_heard who command reply image (allowed.AskingRestore name place rep im h same) = restore_heard name reply image h
-  ask_heard who command reply image (allowed.AskingClone source name names moment taken rep im h same) = clone_heard source name names moment taken reply image h
-  ask_heard who command reply image (allowed.AskingDelete names rep im h same) = delete_heard names reply h
-  ask_heard who command reply image (allowed.AskingCleanup rep im h same) = cleanup_heard reply h
-  ask_heard who command reply image (allowed.Cleaning c d x im recorded untaken there clean same) = refl
-  ask_heard who command reply image (allowed.Used name indices moment uuid im clear is same) = refl
-  ask_heard who command reply image (allowed.Full name indices moment im clear unused full same) = refl
-  ask_heard who command reply image (allowed.AskSpent name indices moment im clear unused room spent same) = refl
-  ask_heard who command reply image (allowed.AskFails name indices moment im acc same) = refl
+  ask_heard who command reply image (allowed.Ruled c refusal im (allowed.Cleaning of d x recorded untaken there clean) same) = refl
+  ask_heard who command reply image other = refl
 
 -- ---- what holds of a world
 

@@ -15,7 +15,7 @@ use Rattle.esr_core.specs.Steps.{given, with_ticket, noting, listing}
 use Rattle.esr_core.specs.Turns.{fails_by, fails}
 use Rattle.esr_core.specs.Pruning.{planned}
 use Rattle.esr_core.specs.Deletes.{named_uuids, waiting_delete, running_delete, aborts_op, aborting, aborted_ops, delete_merged, delete_by}
-use Rattle.esr_core.specs.Entry.{AskedIndex, CloneOf, Snapshot, Clone, DeleteSnapshots, Restore, Cleanup, Given, GivenShard, GivenClone, GivenFinalize, GivenDrop, GivenRestore, GivenDelete, GivenCleanup, Read, ReadBlob, RestoredShard, DrawTest, CommitTest, ReadFails, Prune, FetchShard, PlanShards, SettlePruned, RemoveDoomed, EndDelete, DeleteFails, Step, AskStep, TakeStep, DrawStep, BeginStep, CommitStep, LatestStep, FetchStep, ListStep, RaiseStep, SettleStep, DoneStep, FailedStep, FinishStep, DroppedStep, ElectStep, ReadStep, PruneStep, DepotFault, Reply, Gave, DrawnFrom, WasDone, WasThere, WasFetched, WasListed, HasEnded, Refused, AcceptedRestore}
+use Rattle.esr_core.specs.Entry.{AskedIndex, CloneOf, Snapshot, Clone, DeleteSnapshots, Restore, Cleanup, Given, GivenShard, GivenClone, GivenFinalize, GivenRestore, Read, ReadBlob, RestoredShard, DrawTest, CommitTest, ReadFails, Prune, FetchShard, PlanShards, SettlePruned, EndDelete, DeleteFails, Step, AskStep, TakeStep, DrawStep, BeginStep, CommitStep, LatestStep, FetchStep, ListStep, RaiseStep, SettleStep, DoneStep, FailedStep, FinishStep, DroppedStep, ElectStep, ReadStep, PruneStep, DepotFault, Reply, Gave, DrawnFrom, WasDone, WasThere, WasFetched, WasListed, HasEnded, Refused, AcceptedRestore}
 use Rattle.esr_core.specs.After.{asked_op, cloned_op, asked, shard_of, taken_shard, taken_restore_shard, taken_restore, taken_by, with_given, committing, told_blob, fetching, settled_by, settled_of, done_by, done_of, is_stale, failed_by, failed_of, dropped_of, delete_settled_by, delete_settled, delete_failed_by, delete_failed, prune_step, read_told, shard_over, read_over, read_step, read_by, done_step, has_text, fallen, is_latest, tried, test_left, faulted, answered}
 use Rattle.esr_bounds.specs.Units.{asked_indices, asked_source, asked_shards, asked_counts}
 use Rattle.esr_core.specs.Laws.NumberMaps.{was_in, left_in}
@@ -93,9 +93,7 @@ either_shard new s false later = same_shard s
 
 marked_shard : (k : ℕ) (new : ShardState) (s : ShardWork) (state : ShardState) → IsLater new → SameShard (marked_by k new s state) s
 marked_shard k new s (Out j) later = either_shard new s (j == k) later
-marked_shard k new s Pending later = same_shard s
-marked_shard k new s (Done r) later = same_shard s
-marked_shard k new s GivenUp later = same_shard s
+marked_shard k new s state later = same_shard s
 
 given_up_later : IsLater GivenUp
 given_up_later h = cc
@@ -103,8 +101,7 @@ given_up_later h = cc
 failed_shard : (k : ℕ) (s : ShardWork) (state : ShardState) → SameShard (fails_by k s state) s
 failed_shard k s (Out j) = either_shard GivenUp s (j == k) given_up_later
 failed_shard k s Pending = (refl, refl, refl, λ h. absurd (given_up_later h))
-failed_shard k s (Done r) = same_shard s
-failed_shard k s GivenUp = same_shard s
+failed_shard k s state = same_shard s
 
 each_on : (g : ShardWork → ShardWork) → ((s : ShardWork) → SameShard (g s) s) → (shards : List ShardWork) → ShardsOn shards (map g shards)
 each_on g same shards s h =
@@ -153,9 +150,7 @@ handed_on k index number shards = each_read (handed k index number) (λ s. eithe
 
 ended_read : (k : ℕ) (new : ReadState) (s : RestoreShard) (state : ReadState) → (new ≡ Unread → ⊥) → SameRead (ended_by k new s state) s
 ended_read k new s (BeingRead j) later = either_read new s (j == k) later
-ended_read k new s Unread later = same_read s
-ended_read k new s (Restored files bytes) later = same_read s
-ended_read k new s (NotRestored why) later = same_read s
+ended_read k new s state later = same_read s
 
 ended_on : (k : ℕ) (new : ReadState) (shards : List RestoreShard) → (new ≡ Unread → ⊥) → ReadsOn shards (map (ended k new) shards)
 ended_on k new shards later = each_read (ended k new) (λ s. ended_read k new s s.state later) shards
@@ -292,17 +287,13 @@ module _ (w : World) (step : Step) where
   taken f o (GivenShard index number base) None is = same
   taken f o (GivenClone index number source base) (Some op) is = shard_taken o op base (shard_of op.shards index number) is
   taken f o (GivenClone index number source base) None is = same
-  taken f o (GivenFinalize info results) (Some op) is = record { ops = ops_same; restores = restores_same }
   taken f o (GivenFinalize info results) None is = same
-  taken f o GivenDrop op is = record { ops = ops_same; restores = restores_same }
   taken f o (GivenRestore index number uuid) op is = restore_taken o index number (fin.get w.restores o) refl
-  taken f o (GivenDelete uuids) op is = record { ops = ops_same; restores = restores_same }
-  taken f o GivenCleanup op is = record { ops = ops_same; restores = restores_same }
+  taken f o unit op is = record { ops = ops_same; restores = restores_same }
 
   settle_one : (f : Formats) (k : ℕ) (t : Ticket) (s : Option Swap) (n : Option ℕ) → Works w step (settled_by f w k t s n)
   settle_one f k t (Some s) (Some n) = record { ops = ops_left t.op; restores = restores_same }
-  settle_one f k t (Some s) None = same
-  settle_one f k t None n = same
+  settle_one f k t s n = same
 
   settle : (f : Formats) (k : ℕ) (o : Option Ticket) → Works w step (settled_of f w k o)
   settle f k None = same
@@ -339,8 +330,7 @@ module _ (w : World) (step : Step) where
 
   delete_settle_one : (f : Formats) (k : ℕ) (t : Ticket) (s : Option Swap) (n : Option ℕ) → Works w step (delete_settled_by f w k t s n)
   delete_settle_one f k t (Some s) (Some n) = record { ops = ops_left t.op; restores = restores_same }
-  delete_settle_one f k t (Some s) None = same
-  delete_settle_one f k t None n = same
+  delete_settle_one f k t s n = same
 
   delete_settle : (f : Formats) (k : ℕ) (o : Option Ticket) → Works w step (delete_settled f w k o)
   delete_settle f k None = same
@@ -391,17 +381,15 @@ module _ (w : World) (step : Step) where
 
   prune : (f : Formats) (k : ℕ) (p : Prune) (reply : Reply) (image : Option Image) → Works w step (prune_step f w k p reply image)
   prune f k (FetchShard name) WasFetched image = given_anew k (fetching name (told_blob f image name)) (fin.get w.tickets k)
-  prune f k (FetchShard name) reply image = same
   prune f k (PlanShards shards) reply image = next_anew k (planned f shards w.next_id) (fin.get w.tickets k) (w.next_id + kept_count shards)
   prune f k SettlePruned reply image = delete_settle f k (fin.get w.tickets k)
-  prune f k (RemoveDoomed names) reply image = same
   prune f k EndDelete reply image = given_anew k (λ t. record t { out = false }) (fin.get w.tickets k)
   prune f k (DeleteFails why) reply image = delete_fail k (fin.get w.tickets k)
+  prune f k p reply image = same
 
   test : (name : BlobName) (was now : Option Bytes) → Works w step (test_left w name was now)
   test name None (Some bytes) = record { ops = ops_same; restores = restores_same }
-  test name None None = same
-  test name (Some was) now = same
+  test name was now = same
 
   fall : (f : Formats) (up : World) (image : Option Image) → Works w step up → Works w step (fallen f w up image)
   fall f up image h = by (has_text image (f.cluster.text (record_of up)))
@@ -451,10 +439,8 @@ module _ (f : Formats) (w : World) where
   fault_works k LatestStep image = given_anew w LatestStep k (λ t. record t { tried_latest = true }) (fin.get w.tickets k)
   fault_works k (BeginStep name) image = either w (BeginStep name) (tried w k) w (is_latest name) (given_anew w (BeginStep name) k (λ t. record t { tried_latest = true }) (fin.get w.tickets k)) (same w (BeginStep name))
   fault_works k (ReadStep (CommitTest name)) image = test w (ReadStep (CommitTest name)) name (fin.get w.blobs (f.names.text name)) (told_blob f image name)
-  fault_works k (AskStep (Snapshot name indices moment)) image = fall w (AskStep (Snapshot name indices moment)) f _ image (done_works k (AskStep (Snapshot name indices moment)) HasEnded image)
-  fault_works k (AskStep (Clone source name names moment taken)) image = fall w (AskStep (Clone source name names moment taken)) f _ image (done_works k (AskStep (Clone source name names moment taken)) HasEnded image)
-  fault_works k (AskStep (DeleteSnapshots names)) image = fall w (AskStep (DeleteSnapshots names)) f _ image (done_works k (AskStep (DeleteSnapshots names)) HasEnded image)
-  fault_works k (AskStep Cleanup) image = fall w (AskStep Cleanup) f _ image (done_works k (AskStep Cleanup) HasEnded image)
+  fault_works k (AskStep (Restore name place)) image = same w (AskStep (Restore name place))
+  fault_works k (AskStep command) image = fall w (AskStep command) f (done_step f w k (AskStep command) HasEnded image) image (done_works k (AskStep command) HasEnded image)
   fault_works k RaiseStep image = fall w RaiseStep f _ image (done_works k RaiseStep HasEnded image)
   fault_works k SettleStep image = fall w SettleStep f _ image (done_works k SettleStep HasEnded image)
   fault_works k DroppedStep image = fall w DroppedStep f _ image (done_works k DroppedStep HasEnded image)

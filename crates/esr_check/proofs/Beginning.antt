@@ -79,10 +79,7 @@ same_of_check s old new same = subst (λ (log : List Moment). GrewOfCheck s old 
 pub report_of_check : {S F H T : Type 0} (s : Start) (old new : List Moment) (ending : Ending S F H T) (result : UnitRefusal) → s.alone ≡ true → IsReported hands.Check s old new 0 ending result → GrewOfCheck s old new
 report_of_check s old new (endings.Failed why b) (units.Failed told) alone h = stepped_of_check s old new (ReadFails (why_of why)) HasEnded alone tt h
 report_of_check s old new (endings.Failed why b) (units.Stopped refusal) alone h = refusing_of_check s old new (ReadFails (why_of why)) (told_refusal refusal) alone tt h
-report_of_check s old new (endings.Failed why b) units.Stale alone h = same_of_check s old new h
-report_of_check s old new endings.Own result alone h = same_of_check s old new h
-report_of_check s old new endings.Stale result alone h = same_of_check s old new h
-report_of_check s old new (endings.Stopped refusal) result alone h = same_of_check s old new h
+report_of_check s old new ending result alone h = same_of_check s old new h
 
 -- ---- by a look
 
@@ -196,7 +193,4 @@ same_unchecked old new same = subst (λ (log : List Moment). NoneChecked old log
 pub report_unchecked : {S F H T : Type 0} (s : Start) (old new : List Moment) (ending : Ending S F H T) (result : UnitRefusal) → s.alone ≡ true → IsReported hands.Check s old new 0 ending result → NoneChecked old new
 report_unchecked s old new (endings.Failed why b) (units.Failed told) alone h = stepped_unchecked s old new (ReadStep (ReadFails (why_of why))) HasEnded alone (λ snapshots blobs at ended. cc) h
 report_unchecked s old new (endings.Failed why b) (units.Stopped refusal) alone h = refusing_unchecked s old new (ReadStep (ReadFails (why_of why))) (told_refusal refusal) alone h
-report_unchecked s old new (endings.Failed why b) units.Stale alone h = same_unchecked old new h
-report_unchecked s old new endings.Own result alone h = same_unchecked old new h
-report_unchecked s old new endings.Stale result alone h = same_unchecked old new h
-report_unchecked s old new (endings.Stopped refusal) result alone h = same_unchecked old new h
+report_unchecked s old new ending result alone h = same_unchecked old new h

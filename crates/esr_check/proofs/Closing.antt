@@ -148,14 +148,12 @@ module _ (s : Start) (old first mid : List Moment) (snapshots : List RootSnap) (
 
     for_memory : (result : UnitRefusal) → GivenUp hands.Check e s mid new 0 (endings.Stopped steps.Memory) result → IsCheckRefused e s old new result
     for_memory (units.Stopped told) h = subst (λ (r : StepRefusal). IsCheckRefused e s old new (units.Stopped r)) (sym h.0) tt
-    for_memory (units.Failed why) h = absurd h
-    for_memory units.Stale h = absurd h
+    for_memory result h = absurd h
 
     for_turns : (result : UnitRefusal) → Grounds s mid 0 steps.TurnsSpent → GivenUp hands.Check e s mid new 0 (endings.Stopped steps.TurnsSpent) result → IsCheckRefused e s old new result
     for_turns (units.Stopped told) spends h =
         subst (λ (r : StepRefusal). IsCheckRefused e s old new (units.Stopped r)) (sym h.0) (subst (λ (log : List Moment). Grounds s log 0 steps.TurnsSpent) (sym h.1) spends)
-    for_turns (units.Failed why) spends h = absurd h
-    for_turns units.Stale spends h = absurd h
+    for_turns result spends h = absurd h
 
     refused_ends : (refusal : StepRefusal) (result : UnitRefusal) → IsFetchRefusal s mid refusal → ByUnit {S = S} {F = F} {H = H} {T = T} hands.Check e ⊥ s mid 0 (troubles.Step refusal)
         → GivenUp hands.Check e s mid new 0 (ending_by {S = S} {F = F} {H = H} {T = T} (troubles.Step refusal)) result
@@ -228,7 +226,6 @@ module _ (s : Start) (old first mid new : List Moment) (n count : ℕ) (alone : 
   has_checked is rootless closed =
       let snapshots = (world_of s old).root.snapshots in
       let safe = (world_of s old).safe in
-      let m = moment_of s old first LookStep (Looked snapshots safe) alone look in
       let last = moment_of s mid new (ReadStep (CheckedAll n count)) HasEnded alone end in
       record {
         look = look.image;

@@ -83,9 +83,8 @@ told_read false c name bytes is = absurd cc
 are_push : (moments : List Moment) (names : List BlobName) (m : Moment) (name : BlobName) → AreFetched moments names → m.entry ≡ record { who = 0; step = ReadStep (ReadBlob name); reply = WasFetched }
     → AreFetched (moments ++ m ∷ []) (names ++ name ∷ [])
 are_push [] [] m name are is = (is, tt)
-are_push [] (n ∷ names) m name are is = absurd are
-are_push (x ∷ moments) [] m name are is = absurd are
 are_push (x ∷ moments) (n ∷ names) m name are is = (are.0, are_push moments names m name are.1 is)
+are_push moments names m name are is = absurd are
 
 once_push : (names : List BlobName) (name : BlobName) → AreOnce names → (Has names name → ⊥) → AreOnce (names ++ name ∷ [])
 once_push [] name once new = (λ none. none, tt)

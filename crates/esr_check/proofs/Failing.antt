@@ -58,9 +58,7 @@ module _ {S F H T : Type 0} (e : Evidence S F H T) (s : Start) (log : List Momen
 -- that a check is open
 pub may_end : {S F H T : Type 0} (s : Start) (log : List Moment) (ending : Ending S F H T) → s.alone ≡ true → IsChecking (world_of s log) → MayEnd hands.Check s log 0 ending
 may_end s log (endings.Failed why b) alone is_open = (record { alone = alone; client = refl }, is_open)
-may_end s log endings.Own alone is_open = tt
-may_end s log endings.Stale alone is_open = tt
-may_end s log (endings.Stopped refusal) alone is_open = tt
+may_end s log ending alone is_open = tt
 
 -- a check has no term
 pub never_stale : {S F H T : Type 0} (e : Evidence S F H T) (s : Start) (log : List Moment) (ending : Ending S F H T) → EndingShown hands.Check e ⊥ s log 0 ending → ending ≡ endings.Stale → ⊥

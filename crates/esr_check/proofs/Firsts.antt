@@ -114,10 +114,7 @@ first_reported : {S F H T : Type 0} (s : Start) (old new : List Moment) (ending 
 first_reported s old new (endings.Failed why b) (units.Failed told) alone named h was =
     first_stepped s old new (ReadStep (ReadFails (why_of why))) HasEnded alone (λ w is ended. subst (λ (x : CoreWhy). NamesOne (FirstOf s old) x) (same_why (why_of why) w is) named) h was
 first_reported s old new (endings.Failed why b) (units.Stopped refusal) alone named h was = first_refusing s old new (ReadStep (ReadFails (why_of why))) (told_refusal refusal) alone h was
-first_reported s old new (endings.Failed why b) units.Stale alone named h was = subst (AreFirst s) (sym h) was
-first_reported s old new endings.Own result alone named h was = subst (AreFirst s) (sym h) was
-first_reported s old new endings.Stale result alone named h was = subst (AreFirst s) (sym h) was
-first_reported s old new (endings.Stopped refusal) result alone named h was = subst (AreFirst s) (sym h) was
+first_reported s old new ending result alone named h was = subst (AreFirst s) (sym h) was
 
 pub first_report : {S F H T : Type 0} (s : Start) (old new : List Moment) (trouble : Trouble S F) (ending : Ending S F H T) (result : UnitRefusal) → s.alone ≡ true → ending ≡ ending_by trouble → TellsOne (FirstOf s old) trouble
     → IsReported hands.Check s old new 0 ending result

@@ -17,7 +17,7 @@ use Rattle.esr_desk.specs.Check.Shown.{AllFetches, ReadAs}
 use Rattle.esr_restore.specs.Pairs.{pairs_map}
 use Rattle.esr_check.specs.Names.{Just, AreUnfetched}
 use Rattle.esr_check.specs.Went.{Grown, IsSame, Went}
-use Rattle.esr_check.specs.Pieces.{HasRoot, HasSafe, IsSnapOfRoot, IsShardOfRoot, HasMetas, HasInfo, HasInfosOf, HasHeld, HasFile, HasFiles, HasSnap, HasListed, HasLists, HasShard, HasPlace, HasShards}
+use Rattle.esr_check.specs.Pieces.{HasRoot, HasSafe, IsSnapOfRoot, IsShardOfRoot, HasMetas, HasInfo, HasInfosOf, HasHeld, HasFile, HasFiles, HasSnap, HasListed, HasLists, HasShard, HasShards}
 use Rattle.esr_check.proofs.Living.{front_is, moment_of, stepped_is, fetch_same, fetch_goes}
 
 -- ---- on and on
@@ -179,9 +179,6 @@ module _ (s : Start) (a b : Caller) (grown : Grown a b) where
     snaps = lists_more root infos index shard h.held h.held.snapshots h.snaps;
     files = files_more index shard h.held.files h.files;
   }
-
-  pub place_more : (root : RootData) (infos : List SnapInfo) (index shard : ℕ) (place : Option ℕ) → HasPlace s a root infos index shard place → HasPlace s b root infos index shard place
-  place_more root infos index shard place h generation is = shard_more root infos index shard generation (h generation is)
 
   pub shards_more : (root : RootData) (infos : List SnapInfo) (x : RootIndex) → HasShards s a root infos x → HasShards s b root infos x
   shards_more root infos x h shard generation is = shard_more root infos x.id shard generation (h shard generation is)

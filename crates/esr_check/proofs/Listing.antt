@@ -1,5 +1,5 @@
 -- Blobs of one item of a list after another.
-use Rattle.std.proofs.Common.{◌≡◌, inl, inr, ℕ, zero, suc, ◌+◌, ◌<◌, ◌≤◌, List, [], ◌∷◌, ◌++◌, map, length, take, get_or, refl, sym, ap, ◌∙◌, subst, arith}
+use Rattle.std.proofs.Common.{◌≡◌, inl, inr, ℕ, zero, suc, ◌+◌, ◌<◌, List, [], ◌∷◌, ◌++◌, map, length, take, get_or, refl, sym, ap, ◌∙◌, subst, arith}
 use Rattle.std.proofs.lemmas.Simd.{map-map}
 use Rattle.std.specs.List.{AllByRecursion}
 use Rattle.esr_model.specs.Lists.{Has-left, Has-right, Has-map}
@@ -33,9 +33,6 @@ Below P n name = (k : ℕ) × (k < n) × P k name
 -- the items are the list itself
 pub at_same : {A : Type 0} (items xs : List A) (i : ℕ) (x : A) → items ≡ xs → i < length items → x ≡ get_or items i x → (i < length xs) × (x ≡ get_or xs i x)
 at_same {A} items xs i x same less is = subst (λ (l : List A). (i < length l) × (x ≡ get_or l i x)) same (less, is)
-
-pub past_same : {A : Type 0} (items xs : List A) (i : ℕ) → items ≡ xs → length items ≤ i → length xs ≤ i
-past_same {A} items xs i same past = subst (λ (l : List A). length l ≤ i) same past
 
 pub all_at : {A : Type 0} (P : A → Type 0) (xs : List A) (i : ℕ) (x : A) → AllByRecursion P xs → i < length xs → x ≡ get_or xs i x → P x
 all_at P [] i x all less is = absurd (omega (arith, less))

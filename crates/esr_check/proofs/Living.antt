@@ -87,7 +87,6 @@ tells f size w who step reply image a = tt
 -- a refusal tells nothing
 refused_tells : (f : Formats) (w : World) (step : Step) (refusal : Refusal) → Tells f w step (Refused refusal)
 refused_tells f w (ReadStep (ReadBlob name)) refusal = tt
-refused_tells f w LookStep refusal = tt
 refused_tells f w step refusal = tt
 
 blocked_tells : (f : Formats) (w : World) (who : ℕ) (step : Step) (reply : Reply) (refusal : Refusal) → reply ≡ Refused refusal → Tells f w step reply

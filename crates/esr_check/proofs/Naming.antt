@@ -10,7 +10,7 @@ use Rattle.esr_shardidx.specs.declared.entry.FileEntry.{FileEntry as CodeEntry}
 use Rattle.esr_shardidx.specs.Parts.{part_count}
 use Rattle.esr_restore.specs.PartSizes.{blob_name}
 use Rattle.esr_restore.specs.PartsApart.{parts_differ}
-use Rattle.esr_check.specs.Names.{Just, IsAny, IsOfSnap, IsOfAnySnap, IsMetaIn, IsOfShard, IsSnapOf, IsOfFile, IsPieceOf, IsOfShards, IsOfAnyShard}
+use Rattle.esr_check.specs.Names.{Just, IsOfSnap, IsOfAnySnap, IsMetaIn, IsOfShard, IsSnapOf, IsOfFile, IsPieceOf, IsOfShards, IsOfAnyShard}
 
 -- ---- of one item
 
@@ -161,6 +161,3 @@ of_both index shard uuid name one two = one
 
 pub shards_no_snaps : (name : BlobName) → IsOfAnyShard name → IsOfAnySnap name → ⊥
 shards_no_snaps name one two = of_both one.0 one.1.0 two.0 name one.1.1 two.1
-
-pub is_any : (P : BlobName → Type 0) (name : BlobName) → P name → IsAny name
-is_any P name own = tt

@@ -1,20 +1,16 @@
 -- What the rule of roots says of one that was read.
-use Rattle.std.proofs.Common.{◌≡◌, ℕ, true, List, map, Some, sym, ◌∙◌, subst, eqb-true}
+use Rattle.std.proofs.Common.{◌≡◌, true, List, map, sym, ◌∙◌, subst, eqb-true}
 use Rattle.esr_model.specs.Lists.{Has-mapped, Has-map, pass_has, all_has}
 use Rattle.esr_names.specs.declared.ids.Id.{Id}
 use Rattle.esr_root.specs.Ids.{same_id}
 use Rattle.esr_root.specs.Snaps.{lists}
-use Rattle.esr_root.specs.Indices.{AreIndices, IsListed}
+use Rattle.esr_root.specs.Indices.{IsListed}
 use Rattle.esr_root.specs.Root.{Root, IsRoot}
 use Rattle.esr_root.specs.declared.snaps.RootSnap.{RootSnap as CodeSnap}
-use Rattle.esr_root.specs.declared.indices.RootIndex.{RootIndex as CodeIndex}
 use Rattle.esr_formats.specs.Ids.{number_of}
 use Rattle.esr_formats.specs.Roots.{root_of, root_snap_of, root_index_of}
 use Rattle.esr_model.specs.Values.{Has, RootSnap, RootIndex}
-use Rattle.esr_model.specs.Image.{Generation, at_shard}
 use Rattle.esr_core.specs.Laws.CleanupReach.{any_was}
-use Rattle.esr_reach.specs.Reached.{generation_at}
-use Rattle.esr_reach.specs.OnceEach.{indices_once, one_each}
 use Rattle.esr_check.proofs.Ending.{AreListed}
 
 -- ---- the snapshots of its indices are listed
@@ -32,9 +28,3 @@ are_listed root rule x u there named =
     let passes = pass_has (lists root.snapshots) index.0.snapshots id.0 (all_has (IsListed root.snapshots) root.indices index.0 rule.listed index.1) id.1 in
     let snap = listed_id root.snapshots id.0 passes in
     (snap.0, snap.1, snap.2 ∙ id.2)
-
--- ---- the generations of its indices
-
-pub has_generation : (root : Root) (index : CodeIndex) → AreIndices root.indices → Has (map root_index_of root.indices) (root_index_of index) → (k g : ℕ) → at_shard (root_index_of index).generations k ≡ Some g
-    → Generation (root_of root) index.id.number k g
-has_generation root index rule there k g is = generation_at (root_of root) (one_each (map root_index_of root.indices) (indices_once root.indices rule)) (root_index_of index) there k g is

@@ -22,7 +22,7 @@ use esr_unit::{Trouble, ending_of, give_up};
 use std::alloc::Global;
 
 /// What a check has read: so many listed snapshots, and so many blobs.
-#[derive(Clone, Copy, PartialEq, Eq)]
+#[derive(Clone, Copy)]
 pub struct Checked {
     pub snapshots: u64,
     pub blobs: u64,

@@ -12,6 +12,7 @@ ghost use Rattle.esr_check.specs.Went.{IsSoFar, Went};
 use crate::shard::check_shards;
 use esr_desk::Client;
 use esr_meta::SnapInfo;
+use esr_parts::buffer;
 use esr_root::RootData;
 use esr_unit::Trouble;
 use std::alloc::Global;
@@ -62,6 +63,6 @@ pub fn check_indices<Q: Client>(
     ensures first { IfErr result (TellsOne (FirstOfIndices Q.start (caller_of Q.start (Q.seen desk.new)) (root_of root.now) (map info_of_code infos.now))) }
     ensures went { Went Q.start (Q.seen desk.old) (Q.seen desk.new) IsOfAnyShard }
 {
-    let mut buf = [0; 65536];
+    let mut buf = buffer();
     check_each(alloc, desk, count, root, infos, &mut buf)
 }

@@ -1,12 +1,11 @@
 -- A command that is asked for.
-use Rattle.std.proofs.Common.{◌≡◌, ℕ, suc, ◌+◌, ◌^◌, ◌<◌, ◌≤◌, true, List, map, Some, None, Result, Ok, Err, IfOk, IfSome, refl, sym, ap, ◌∙◌, subst, arith, IfErr, IsErrAnd}
-use Rattle.std.specs.FinMap as fin
+use Rattle.std.proofs.Common.{◌≡◌, ℕ, suc, ◌+◌, ◌^◌, ◌<◌, true, List, map, Some, None, Result, Ok, Err, IfOk, IfSome, refl, sym, ap, ◌∙◌, subst, arith, IfErr, IsErrAnd}
 use Rattle.esr_model.specs.Values.{Bytes}
 use Rattle.esr_model.specs.Kept.{first_id}
-use Rattle.esr_core.specs.World.{World, Deletion, record_ops, ledger_of}
+use Rattle.esr_core.specs.World.{World, record_ops, ledger_of}
 use Rattle.esr_core.specs.Entry.{Asked, Snapshot, DeleteSnapshots, Cleanup, is_recorded, TakesNothing, AskStep, Accepted, CleanupRunning, NameInUse, TooMany, IdsSpent, Moment}
 use Rattle.esr_core.specs.After.{asked}
-use Rattle.esr_core.specs.Allowed.{NoCleanup, IsNameOf, IsUnused, open_count, Accepting, Cleaning, Used, Full, AskSpent}
+use Rattle.esr_core.specs.Allowed.{Accepting, Cleaning, Used, Full, AskSpent}
 use Rattle.esr_root.specs.Root.{Root}
 use Rattle.esr_record.specs.Record.{Record}
 use Rattle.esr_formats.specs.Roots.{root_of}
@@ -16,13 +15,14 @@ use Rattle.esr_ops.specs.Plan.{Plan, IsPlanOf, IsAskedIn}
 use Rattle.esr_ops.specs.declared.refusal.Refusal.{Refusal as ListRefusal}
 use Rattle.esr_ops.specs.declared.refusal.Refusal.TheVariants as refusals
 use Rattle.esr_ops.specs.declared.command.Accepted.{Accepted as CodeAccepted}
-use Rattle.esr_accept.specs.Accepting.{drawn_by, MayAccept, IsAccepted, IsRefused, name_asked, Accepting as IsAccepting, AcceptingDelete, AcceptingCleanup}
+use Rattle.esr_accept.specs.Accepting.{MayAccept, IsAccepted, IsRefused, name_asked, Accepting as IsAccepting, AcceptingDelete, AcceptingCleanup}
 use Rattle.esr_desk.specs.Refusals.{refusal_of}
 use Rattle.esr_desk.specs.Start.{Start, world_of}
 use Rattle.esr_repo.specs.May.{MaySwap, MayRefuse}
 use Rattle.esr_repo.specs.InfosAfter.{InfosAfter}
 use Rattle.esr_repo.specs.WithOps.{cluster_from}
 use Rattle.esr_client.specs.Asked.{entry_of, as_op, IsListed}
+use Rattle.esr_client.proofs.Ruled.{ruled, ruled_at}
 use Rattle.esr_client.proofs.AskedDeletes.{refuses_delete, may_ask_delete}
 use Rattle.esr_client.proofs.AskedCleanups.{refuses_cleanup, may_ask_cleanup}
 
@@ -42,34 +42,16 @@ takes_nothing : (command : Asked) → IsAskable command → TakesNothing command
 takes_nothing (Snapshot name indices moment) askable = tt
 takes_nothing command askable = absurd askable
 
-cleanup_refused : (s : Start) (log : List Moment) (command : Asked) (d : ℕ) → IsAskable command → (x : Deletion) × (fin.get (world_of s log).deletes d ≡ Some x) × (x.clean ≡ true) → MayRefuse s log 0 (AskStep command) (CleanupRunning d)
-cleanup_refused s log command d askable h = record { plain = refl; allows = λ image tells same. Cleaning command d h.0 image (recorded command askable) (takes_nothing command askable) h.1 h.2 same }
-
-used_refused : (s : Start) (log : List Moment) (command : Asked) (uuid : ℕ) → IsAskable command → NoCleanup (world_of s log) × IsNameOf (world_of s log) (name_asked command) uuid → MayRefuse s log 0 (AskStep command) (NameInUse uuid)
-used_refused s log (Snapshot name indices moment) uuid askable h = record { plain = refl; allows = λ image tells same. Used name indices moment uuid image h.0 h.1 same }
-used_refused s log command uuid askable h = absurd askable
-
-full_refused : (s : Start) (log : List Moment) (command : Asked) (limit : ℕ) → IsAskable command → (limit ≡ 1000) × NoCleanup (world_of s log) × IsUnused (world_of s log) (name_asked command) × (1000 ≤ open_count (world_of s log))
-    → MayRefuse s log 0 (AskStep command) (TooMany limit)
-full_refused s log (Snapshot name indices moment) limit askable h =
-    subst (λ (n : ℕ). MayRefuse s log 0 (AskStep (Snapshot name indices moment)) (TooMany n)) (sym h.0) (record { plain = refl; allows = λ image tells same. Full name indices moment image h.1 h.2 h.3 same })
-full_refused s log command limit askable h = absurd askable
-
-spent_refused : (s : Start) (log : List Moment) (command : Asked) (next : ℕ) → IsAskable command
-    → (next ≡ (world_of s log).next_id) × MayAccept (world_of s log) (name_asked command) × (first_id (suc (world_of s log).term) ≤ (world_of s log).next_id + drawn_by (world_of s log) command)
-    → MayRefuse s log 0 (AskStep command) (IdsSpent next)
-spent_refused s log (Snapshot name indices moment) next askable h =
-    subst (λ (n : ℕ). MayRefuse s log 0 (AskStep (Snapshot name indices moment)) (IdsSpent n)) (sym h.0) (record { plain = refl; allows = λ image tells same. AskSpent name indices moment image h.1.no_cleanup h.1.unused h.1.room h.2 same })
-spent_refused s log command next askable h = absurd askable
-
 refuses_snapshot : (s : Start) (log : List Moment) (command : Asked) (refusal : ListRefusal) → IsAskable command → IsRefused (world_of s log) (name_asked command) command refusal
     → IfSome (entry_of refusal) (λ e. MayRefuse s log 0 (AskStep command) (refusal_of e))
 refuses_snapshot s log command refusals.Memory askable h = tt
-refuses_snapshot s log command (refusals.CleanupRunning op) askable h = cleanup_refused s log command op askable h
-refuses_snapshot s log command (refusals.NameInUse uuid) askable h = used_refused s log command uuid.number askable h
-refuses_snapshot s log command (refusals.TooMany limit) askable h = full_refused s log command limit askable h
-refuses_snapshot s log command (refusals.IdsSpent next) askable h = spent_refused s log command next.number askable h
-refuses_snapshot s log command other askable h = absurd h
+refuses_snapshot s log command (refusals.CleanupRunning op) askable h = ruled s log command (CleanupRunning op) (Cleaning command op h.0 (recorded command askable) (takes_nothing command askable) h.1 h.2)
+refuses_snapshot s log (Snapshot name indices moment) (refusals.NameInUse uuid) askable h = ruled s log (Snapshot name indices moment) (NameInUse uuid.number) (Used name indices moment uuid.number h.0 h.1)
+refuses_snapshot s log (Snapshot name indices moment) (refusals.TooMany limit) askable h = ruled_at s log (Snapshot name indices moment) TooMany limit 1000 h.0 (Full name indices moment h.1 h.2 h.3)
+refuses_snapshot s log (Snapshot name indices moment) (refusals.IdsSpent next) askable h =
+    ruled_at s log (Snapshot name indices moment) IdsSpent next.number (world_of s log).next_id h.0 (AskSpent name indices moment h.1.no_cleanup h.1.unused h.1.room h.2)
+refuses_snapshot s log (Snapshot name indices moment) other askable h = absurd h
+refuses_snapshot s log command other askable h = absurd askable
 
 -- by the rules of its kind
 pub refuses : (s : Start) (log : List Moment) (command : Asked) (refusal : ListRefusal) → IsForOp command → IsListed (world_of s log) command (Err refusal) → IfSome (entry_of refusal) (λ e. MayRefuse s log 0 (AskStep command) (refusal_of e))

@@ -1,14 +1,13 @@
 -- A clone that is asked for.
-use Rattle.std.proofs.Common.{◌≡◌, ℕ, suc, ◌+◌, ◌<◌, ◌≤◌, true, List, [], ◌∷◌, map, Option, Some, None, Result, Ok, Err, IsErrAnd, IfOk, IfSome, refl, sym, ap, ◌∙◌, subst, inl, inr, arith}
-use Rattle.std.specs.FinMap as fin
+use Rattle.std.proofs.Common.{◌≡◌, ℕ, suc, ◌+◌, ◌<◌, List, [], ◌∷◌, map, Option, Some, None, Result, Ok, Err, IsErrAnd, IfOk, IfSome, refl, sym, ap, ◌∙◌, subst, inl, inr, arith}
 use Rattle.esr_model.specs.Kept.{first_id}
 use Rattle.esr_model.specs.Values.{Bytes, Has, IndexRef}
-use Rattle.esr_core.specs.World.{Deletion, record_ops, ledger_of}
+use Rattle.esr_core.specs.World.{record_ops, ledger_of}
 use Rattle.esr_core.specs.Generations.{OpTexts}
 use Rattle.esr_core.specs.Restores.{AreOnce}
 use Rattle.esr_core.specs.Entry.{CloneOf, Clone, Step, AskStep, Reply, Accepted, CleanupRunning, NameInUse, NoSnapshot, BeingDeleted, NoIndex, TooMany, IdsSpent, Moment}
 use Rattle.esr_core.specs.After.{chosen_refs, cloned_op, clone_opened, asked}
-use Rattle.esr_core.specs.Allowed.{NoCleanup, IsNameOf, IsListed, IsBeingDeleted, open_count, MayName, MayCopy, MayClone, IsFirstMissing, OpeningClone, CloneUsed, SourceNotListed, SourceDeleted, IndexMissing, FullOfClones, CloneSpent, AskingClone, Cleaning}
+use Rattle.esr_core.specs.Allowed.{open_count, MayClone, OpeningClone, CloneUsed, SourceNotListed, SourceDeleted, IndexMissing, FullOfClones, CloneSpent, Cleaning}
 use Rattle.esr_record.specs.Record.{Record}
 use Rattle.esr_formats.specs.Refs.{AreApart}
 use Rattle.esr_formats.specs.Clusters.{op_of, cluster_of}
@@ -27,53 +26,19 @@ use Rattle.esr_repo.specs.May.{MaySwap, MayRefuse}
 use Rattle.esr_client.proofs.Restores.{told_so}
 use Rattle.esr_repo.specs.InfosAfter.{InfosAfter}
 use Rattle.esr_repo.specs.WithOps.{cluster_from}
+use Rattle.esr_client.proofs.Ruled.{ruled, ruled_at}
 
 -- ---- why it is refused
 
-cleanup_refused : (s : Start) (log : List Moment) (source name : Bytes) (names : List Bytes) (moment d : ℕ) → (x : Deletion) × (fin.get (world_of s log).deletes d ≡ Some x) × (x.clean ≡ true)
-    → MayRefuse s log 0 (AskStep (Clone source name names moment None)) (CleanupRunning d)
-cleanup_refused s log source name names moment d h = record { plain = refl; allows = λ image tells same. Cleaning (Clone source name names moment None) d h.0 image refl tt h.1 h.2 same }
-
-used_refused : (s : Start) (log : List Moment) (source name : Bytes) (names : List Bytes) (moment uuid : ℕ) → NoCleanup (world_of s log) × IsNameOf (world_of s log) name uuid
-    → MayRefuse s log 0 (AskStep (Clone source name names moment None)) (NameInUse uuid)
-used_refused s log source name names moment uuid h = record { plain = refl; allows = λ image tells same. AskingClone source name names moment None _ image (CloneUsed uuid image h.0 h.1) same }
-
-unlisted_refused : (s : Start) (log : List Moment) (source name : Bytes) (names : List Bytes) (moment at : ℕ) → (at ≡ 0) × MayName (world_of s log) name × ((uuid : ℕ) → IsListed (world_of s log) source uuid → ⊥)
-    → MayRefuse s log 0 (AskStep (Clone source name names moment None)) (NoSnapshot at)
-unlisted_refused s log source name names moment at h =
-    subst (λ (n : ℕ). MayRefuse s log 0 (AskStep (Clone source name names moment None)) (NoSnapshot n)) (sym h.0)
-    (record { plain = refl; allows = λ image tells same. AskingClone source name names moment None _ image (SourceNotListed image h.1 h.2) same })
-
-deleted_refused : (s : Start) (log : List Moment) (source name : Bytes) (names : List Bytes) (moment d : ℕ) → MayName (world_of s log) name × ((uuid : ℕ) × IsListed (world_of s log) source uuid × IsBeingDeleted (world_of s log) uuid d)
-    → MayRefuse s log 0 (AskStep (Clone source name names moment None)) (BeingDeleted d)
-deleted_refused s log source name names moment d h = record { plain = refl; allows = λ image tells same. AskingClone source name names moment None _ image (SourceDeleted h.1.0 d image h.0 h.1.1 h.1.2) same }
-
-index_refused : (s : Start) (log : List Moment) (source name : Bytes) (names : List Bytes) (moment at : ℕ) → (uuid : ℕ) × MayCopy (world_of s log) source name uuid × IsFirstMissing (world_of s log) uuid names at
-    → MayRefuse s log 0 (AskStep (Clone source name names moment None)) (NoIndex at)
-index_refused s log source name names moment at h = record { plain = refl; allows = λ image tells same. AskingClone source name names moment None _ image (IndexMissing h.0 at image h.1 h.2) same }
-
-full_refused : (s : Start) (log : List Moment) (source name : Bytes) (names : List Bytes) (moment limit : ℕ) → (limit ≡ 1000) × ((uuid : ℕ) × MayClone (world_of s log) source name names uuid × (1000 ≤ open_count (world_of s log)))
-    → MayRefuse s log 0 (AskStep (Clone source name names moment None)) (TooMany limit)
-full_refused s log source name names moment limit h =
-    subst (λ (n : ℕ). MayRefuse s log 0 (AskStep (Clone source name names moment None)) (TooMany n)) (sym h.0)
-    (record { plain = refl; allows = λ image tells same. AskingClone source name names moment None _ image (FullOfClones h.1.0 image h.1.1 h.1.2) same })
-
-spent_refused : (s : Start) (log : List Moment) (source name : Bytes) (names : List Bytes) (moment next : ℕ)
-    → (next ≡ (world_of s log).next_id) × ((uuid : ℕ) × MayClone (world_of s log) source name names uuid × (open_count (world_of s log) < 1000) × (first_id (suc (world_of s log).term) ≤ suc (world_of s log).next_id))
-    → MayRefuse s log 0 (AskStep (Clone source name names moment None)) (IdsSpent next)
-spent_refused s log source name names moment next h =
-    subst (λ (n : ℕ). MayRefuse s log 0 (AskStep (Clone source name names moment None)) (IdsSpent n)) (sym h.0)
-    (record { plain = refl; allows = λ image tells same. AskingClone source name names moment None _ image (CloneSpent h.1.0 image h.1.1 h.1.2 h.1.3) same })
-
 pub refuses_clone : (s : Start) (log : List Moment) (source name : Bytes) (names : List Bytes) (moment : ℕ) (refusal : ListRefusal) → IsCloneRefused (world_of s log) source name names refusal
     → IfSome (entry_of refusal) (λ e. MayRefuse s log 0 (AskStep (Clone source name names moment None)) (refusal_of e))
-refuses_clone s log source name names moment (refusals.CleanupRunning op) h = cleanup_refused s log source name names moment op h
-refuses_clone s log source name names moment (refusals.NameInUse uuid) h = used_refused s log source name names moment uuid.number h
-refuses_clone s log source name names moment (refusals.NoSnapshot place) h = unlisted_refused s log source name names moment place h
-refuses_clone s log source name names moment (refusals.BeingDeleted op) h = deleted_refused s log source name names moment op h
-refuses_clone s log source name names moment (refusals.NoIndex place) h = index_refused s log source name names moment place h
-refuses_clone s log source name names moment (refusals.TooMany limit) h = full_refused s log source name names moment limit h
-refuses_clone s log source name names moment (refusals.IdsSpent next) h = spent_refused s log source name names moment next.number h
+refuses_clone s log source name names moment (refusals.CleanupRunning op) h = ruled s log (Clone source name names moment None) (CleanupRunning op) (Cleaning (Clone source name names moment None) op h.0 refl tt h.1 h.2)
+refuses_clone s log source name names moment (refusals.NameInUse uuid) h = ruled s log (Clone source name names moment None) (NameInUse uuid.number) (CloneUsed source name names moment uuid.number h.0 h.1)
+refuses_clone s log source name names moment (refusals.NoSnapshot place) h = ruled_at s log (Clone source name names moment None) NoSnapshot place 0 h.0 (SourceNotListed source name names moment h.1 h.2)
+refuses_clone s log source name names moment (refusals.BeingDeleted op) h = ruled s log (Clone source name names moment None) (BeingDeleted op) (SourceDeleted source name names moment h.1.0 op h.0 h.1.1 h.1.2)
+refuses_clone s log source name names moment (refusals.NoIndex place) h = ruled s log (Clone source name names moment None) (NoIndex place) (IndexMissing source name names moment h.0 place h.1 h.2)
+refuses_clone s log source name names moment (refusals.TooMany limit) h = ruled_at s log (Clone source name names moment None) TooMany limit 1000 h.0 (FullOfClones source name names moment h.1.0 h.1.1 h.1.2)
+refuses_clone s log source name names moment (refusals.IdsSpent next) h = ruled_at s log (Clone source name names moment None) IdsSpent next.number (world_of s log).next_id h.0 (CloneSpent source name names moment h.1.0 h.1.1 h.1.2 h.1.3)
 refuses_clone s log source name names moment other h = absurd h
 
 -- ---- what is kept
@@ -100,8 +65,7 @@ may_ask_clone s log source name names moment taken all cluster p o next served m
       swaps = refl;
       answers = refl;
       allows = λ image tells same.
-          AskingClone source name names moment (Some taken) (Accepted o) image
-          (OpeningClone taken o image
+          OpeningClone source name names moment o taken image
           (record {
             number = o_is;
             may = may.0;
@@ -113,7 +77,7 @@ may_ask_clone s log source name names moment taken all cluster p o next served m
             named_once = named_once all apart;
             chosen_is = chosen;
             texts = texts;
-          }))
+          })
           same;
       cluster_is = cluster_from (asked (world_of s log) (Clone source name names moment (Some taken))) cluster p plan ledger ops;
       root_is = λ old h. h;

@@ -1,6 +1,7 @@
 pub mod CallerSteps
 pub mod Asks
 pub mod Elections
+pub mod Ruled
 pub mod AskedDeletes
 pub mod AskedCleanups
 pub mod Accepts

@@ -1,5 +1,5 @@
 -- A restore that is asked for.
-use Rattle.std.proofs.Common.{◌≡◌, ◌≢◌, ◌⊎◌, ℕ, ◌<◌, ◌≤◌, Bool, true, false, cond, List, [], ◌∷◌, ◌++◌, map, Option, Some, None, IfSome, refl, sym, ap, ◌∙◌, subst, inl, inr, eq-eqb, true≢false}
+use Rattle.std.proofs.Common.{◌≡◌, ◌≢◌, ◌⊎◌, ℕ, ◌<◌, Bool, true, false, cond, List, [], ◌∷◌, ◌++◌, map, Option, Some, None, IfSome, refl, sym, ap, ◌∙◌, subst, inl, inr, eq-eqb, true≢false}
 use Rattle.std.specs.Prelude.{◌==◌}
 use Rattle.std.specs.List.{find, IsDistinct}
 use Rattle.std.proofs.lemmas.Bool.{eqb-true}
@@ -10,7 +10,7 @@ use Rattle.esr_model.specs.Values.{Bytes, Has, IndexRef}
 use Rattle.esr_core.specs.World.{World}
 use Rattle.esr_core.specs.Restores.{restore_opened}
 use Rattle.esr_core.specs.Entry.{Restore, AskStep, AcceptedRestore, NoSnapshot, BeingDeleted, TooMany, Moment}
-use Rattle.esr_core.specs.Allowed.{Told, WasMade, IsInInfo, IsListed, IsSpared, IsBeingDeleted, OpeningRestore, NotListed, NamedByDelete, FullOfRestores, AskingRestore}
+use Rattle.esr_core.specs.Allowed.{Told, WasMade, IsInInfo, IsListed, IsSpared, OpeningRestore, NotListed, NamedByDelete, FullOfRestores}
 use Rattle.esr_model.specs.Lists.{Has-mapped}
 use Rattle.esr_names.specs.Indices.{AreRefs}
 use Rattle.esr_meta.specs.Info.{Info}
@@ -28,6 +28,7 @@ use Rattle.esr_repo.specs.Repo.{HasInfos}
 use Rattle.esr_client.specs.Asked.{entry_of}
 use Rattle.esr_repo.specs.May.{CanTell, MayNote, MayRefuse}
 use Rattle.esr_repo.specs.Stepping.{told_if}
+use Rattle.esr_client.proofs.Ruled.{ruled, ruled_at}
 
 -- ---- an info
 
@@ -101,32 +102,17 @@ pub may_restore : (s : Start) (log : List Moment) (name place : Bytes) (uuid : �
 may_restore s log name place uuid indices p o next may has o_is plan_is next_is = record {
   plain = refl;
   allows = λ image tells same.
-      AskingRestore name place (AcceptedRestore o uuid indices) image
-      (OpeningRestore o uuid indices image
-      (record { number = o_is; listed = may.0; spared = may.1; room = may.2; indices_of = record { within = has.within; generations = has.generations; told = told_so s (world_of s log) uuid indices image tells has.told } })) same;
+      OpeningRestore name place o uuid indices image
+      (record { number = o_is; listed = may.0; spared = may.1; room = may.2; indices_of = record { within = has.within; generations = has.generations; told = told_so s (world_of s log) uuid indices image tells has.told } }) same;
   plan_is = λ image old h. plan_is;
   next_is = λ image. next_is;
 }
 
 -- ---- it is refused
 
-unlisted_refused : (s : Start) (log : List Moment) (name place : Bytes) (at : ℕ) → (at ≡ 0) × ((uuid : ℕ) → IsListed (world_of s log) name uuid → ⊥) → MayRefuse s log 0 (AskStep (Restore name place)) (NoSnapshot at)
-unlisted_refused s log name place at h =
-    subst (λ (n : ℕ). MayRefuse s log 0 (AskStep (Restore name place)) (NoSnapshot n)) (sym h.0)
-    (record { plain = refl; allows = λ image tells same. AskingRestore name place _ image (NotListed image h.1) same })
-
-deleted_refused : (s : Start) (log : List Moment) (name place : Bytes) (d : ℕ) → (uuid : ℕ) × IsListed (world_of s log) name uuid × IsBeingDeleted (world_of s log) uuid d → MayRefuse s log 0 (AskStep (Restore name place)) (BeingDeleted d)
-deleted_refused s log name place d h = record { plain = refl; allows = λ image tells same. AskingRestore name place _ image (NamedByDelete h.0 d image h.1 h.2) same }
-
-full_refused : (s : Start) (log : List Moment) (name place : Bytes) (limit : ℕ) → (limit ≡ 1000) × ((uuid : ℕ) × IsListed (world_of s log) name uuid × IsSpared (world_of s log) uuid × (1000 ≤ fin.len (world_of s log).restores))
-    → MayRefuse s log 0 (AskStep (Restore name place)) (TooMany limit)
-full_refused s log name place limit h =
-    subst (λ (n : ℕ). MayRefuse s log 0 (AskStep (Restore name place)) (TooMany n)) (sym h.0)
-    (record { plain = refl; allows = λ image tells same. AskingRestore name place _ image (FullOfRestores h.1.0 image h.1.1 h.1.2 h.1.3) same })
-
 pub refuses_restore : (s : Start) (log : List Moment) (name place : Bytes) (refusal : ListRefusal) → IsRestoreRefused (world_of s log) name refusal
     → IfSome (entry_of refusal) (λ e. MayRefuse s log 0 (AskStep (Restore name place)) (refusal_of e))
-refuses_restore s log name place (refusals.NoSnapshot at) h = unlisted_refused s log name place at h
-refuses_restore s log name place (refusals.BeingDeleted op) h = deleted_refused s log name place op h
-refuses_restore s log name place (refusals.TooMany limit) h = full_refused s log name place limit h
+refuses_restore s log name place (refusals.NoSnapshot at) h = ruled_at s log (Restore name place) NoSnapshot at 0 h.0 (NotListed name place h.1)
+refuses_restore s log name place (refusals.BeingDeleted op) h = ruled s log (Restore name place) (BeingDeleted op) (NamedByDelete name place h.0 op h.1 h.2)
+refuses_restore s log name place (refusals.TooMany limit) h = ruled_at s log (Restore name place) TooMany limit 1000 h.0 (FullOfRestores name place h.1.0 h.1.1 h.1.2 h.1.3)
 refuses_restore s log name place other h = absurd h

@@ -6,7 +6,7 @@ use Rattle.std.specs.FinMap as fin
 use Rattle.esr_model.specs.Finalize.{finalized_root}
 use Rattle.esr_model.specs.Values.{Bytes, Has, IndexRef, RootData, SnapInfo, ShardResult, ReadsBack, Formats}
 use Rattle.esr_core.specs.World.{World, Op, ShardWork, Done, AllDone, Work as UnitWork, Shard, Finalize, Deleting, Drop, Ticket, RestoreShard, Restoring, Reader, info_of, made_of}
-use Rattle.esr_core.specs.Entry.{Given, GivenShard, GivenFinalize, GivenDrop, GivenRestore, GivenClone, TakeStep, Gave, NothingReady, Moment}
+use Rattle.esr_core.specs.Entry.{Given, GivenShard, GivenFinalize, GivenRestore, GivenClone, TakeStep, Gave, NothingReady, Moment}
 use Rattle.esr_core.specs.Ready.{ReadyFinalize, AnyReady}
 use Rattle.esr_core.specs.Restores.{restore_shard, reader_of as restore_reader}
 use Rattle.esr_core.specs.Steps.{shard_ticket, final_ticket, plain_ticket}
@@ -30,7 +30,7 @@ use Rattle.esr_desk.specs.Start.{Start, formats_of, world_of, or_no_ticket, tick
 use Rattle.esr_desk.specs.Taken.{fresh, NewRoot, TookWork}
 use Rattle.esr_desk.specs.Own.{or_no_reader, reader_of}
 use Rattle.esr_desk.specs.Readers.{fresh_reader, ByWork, TookUnit, IsBareIn, IsBare, TookWork as TookReading}
-use Rattle.esr_repo.specs.Based.{base_for, IsBased}
+use Rattle.esr_progress.specs.Based.{base_for, IsBased}
 use Rattle.esr_client.specs.Given.{IsRootable, HasRoot, HasNoRoot}
 use Rattle.esr_repo.specs.Next.{Added}
 use Rattle.esr_repo.specs.May.{MayNote}
@@ -48,13 +48,12 @@ may_note_nothing s log next none next_is = record { plain = refl; allows = λ im
 each_result : (shards : List ShardWork) (results : List ShardResult) → AllDone shards results → ((s : ShardWork) (r : ShardResult) → Has shards s → s.state ≡ Done r → (r.index ≡ s.ref.id) × (r.shard ≡ s.number))
     → map {B = ℕ × ℕ} (λ (r : ShardResult). (r.index, r.shard)) results ≡ map {B = ℕ × ℕ} (λ (p : IndexRef × ℕ). (p.0.id, p.1)) (map {B = IndexRef × ℕ} (λ (s : ShardWork). (s.ref, s.number)) shards)
 each_result [] [] done own = refl
-each_result [] (r ∷ results) done own = absurd done
-each_result (s ∷ shards) [] done own = absurd done
 each_result (s ∷ shards) (r ∷ results) done own =
     let here = own s r (inl refl) done.0 in
     let rest = each_result shards results done.1 (λ z q has. own z q (inr has)) in
     let first : (r.index, r.shard) ≡ (s.ref.id, s.number) = λ i. (here.0 i, here.1 i) in
     λ i. first i ∷ rest i
+each_result shards results done own = absurd done
 
 finalizable : (w : World) (o : ℕ) (op : Op) (results : List ShardResult) → Tracked w → ReadyFinalize w o op results → MayFinalize w.root (info_of op results) results
 finalizable w o op results tracked ready = record {
@@ -75,10 +74,7 @@ given_so : (s : Start) (w : World) (u : ReadyUnit) (made : Option Root) → Give
 given_so s w u made gives has = go u.work refl gives.gives
   where
     go : (work : Work) → u.work ≡ work → GivesWork w u.op work u.copy → Gives (formats_of s) w u.op (given_by work u.copy)
-    go (works.Shard uuid shard index place) is h = h.gives
     go works.Drop is h = h
-    go (works.RestoreShard uuid shard index place) is h = h.gives
-    go (works.CloneShard source uuid shard index) is h = h.gives
     go (works.Delete uuids) is h = h
     go works.Cleanup is h = h
     go (works.Finalize info shards) is h =
@@ -91,6 +87,7 @@ given_so s w u made gives has = go u.work refl gives.gives
           info_is = h.2;
           root_back = subst (λ kind. ReadsBack kind (finalized_root w.root (info_of h.0 (map result_of shards)) (map result_of shards))) (sym (root_kind_is s)) (subst (ReadsBack root_kind) same root.back);
         }
+    go work is h = h.gives
 
 next_restore : (w : World) (o index number : ℕ) (r : Option Restoring) → (taken_restore w o index number r).next_id ≡ w.next_id
 next_restore w o index number None = refl
@@ -106,12 +103,8 @@ next_shard w o op base (Some s) = refl
 
 next_taken : (f : Formats) (w : World) (o : ℕ) (unit : Given) (op : Option Op) → (taken_by f w o unit op).next_id ≡ w.next_id
 next_taken f w o (GivenShard index number base) (Some op) = next_shard w o op base (shard_of op.shards index number)
-next_taken f w o (GivenShard index number base) None = refl
 next_taken f w o (GivenClone index number source base) (Some op) = next_shard w o op base (shard_of op.shards index number)
-next_taken f w o (GivenClone index number source base) None = refl
 next_taken f w o (GivenFinalize info results) (Some op) = refl
-next_taken f w o (GivenFinalize info results) None = refl
-next_taken f w o GivenDrop op = refl
 next_taken f w o (GivenRestore index number uuid) op = next_restore w o index number (fin.get w.restores o)
 next_taken f w o unit op = refl
 

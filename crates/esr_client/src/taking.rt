@@ -6,11 +6,11 @@ ghost use Rattle.esr_core.specs.Entry.{TakeStep};
 ghost use Rattle.esr_core.specs.After.{taken_by};
 ghost use Rattle.esr_ops.specs.Plan.{IsPlanOf};
 ghost use Rattle.esr_ops.specs.Units.{GivesUnit, given_of};
+ghost use Rattle.esr_progress.specs.Based.{IsBased};
 ghost use Rattle.esr_desk.specs.Entries.{unit_of};
 ghost use Rattle.esr_desk.specs.Outcome.{take_reply};
 ghost use Rattle.esr_desk.specs.Start.{world_of};
 ghost use Rattle.esr_desk.specs.Readers.{TookUnit, IsBare};
-ghost use Rattle.esr_repo.specs.Based.{IsBased};
 ghost use Rattle.esr_client.specs.Given.{IsRootable, HasRoot, HasNoRoot};
 ghost use Rattle.esr_repo.specs.Next.{IsLive, GoesOn, Did};
 

@@ -7,7 +7,7 @@ use Rattle.std.proofs.lemmas.Option.{same_Some, none-some}
 use Rattle.esr_core.specs.Laws.NumberMaps.{split_at}
 use Rattle.esr_model.specs.Values.{Bytes, Has, Formats}
 use Rattle.esr_model.specs.Shelf.{Shelved, names_uuid}
-use Rattle.esr_core.specs.World.{World, Op, Work, Shard, Finalize, Deleting, Drop, Ticket}
+use Rattle.esr_core.specs.World.{World, Op, Work, Finalize, Deleting, Ticket}
 use Rattle.esr_core.specs.Deletes.{named_uuids, has_op, is_swap, swaps_op, is_swapped, is_unaborted, aborts_op, aborting, aborted_ops}
 use Rattle.esr_core.specs.Ids.{Law}
 use Rattle.esr_core.specs.Allowed.{IsNameOf}
@@ -52,10 +52,9 @@ module _ (w : World) (uuids : List ℕ) (by : ℕ) where
 -- ---- which ones it aborts
 
 final_swap : (work : Work) → IsFinal work → is_swap work ≡ true
-final_swap (Shard index number) m = absurd m
 final_swap (Finalize info results made) m = refl
 final_swap (Deleting uuids plan) m = refl
-final_swap Drop m = absurd m
+final_swap work m = absurd m
 
 -- none of which a finalization is out
 pub not_out : (w : World) (uuids : List ℕ) (o : ℕ) (op : Op) (k : ℕ) (t : Ticket) → aborts_op w uuids (o, op) ≡ true → fin.get w.tickets k ≡ Some t → t.term ≡ w.term → t.op ≡ o → IsOutFinal t → ⊥

@@ -11,8 +11,8 @@ use Rattle.esr_script.specs.declared.item.Item.TheVariants as items
 use Rattle.esr_script.specs.declared.item.ScriptLine.{ScriptLine}
 use Rattle.esr_report.specs.Replies.{Reply, Refused, Failed, Deposed, fails_swap, has_fallen, wait_reply, is_short, end_reply, replies}
 use Rattle.esr_report.specs.Status.{is_deposed, damaged_name, first_damaged, is_spent, are_ok, AllOk, SomeRefused, SwapFailed, ending_by, ending}
-use Rattle.esr_quiet.specs.Refusals.{IsByRule}
-use Rattle.esr_quiet.specs.RuleLaws.{never_rule}
+use Rattle.esr_core.specs.Refusing.{IsByRule}
+use Rattle.esr_core.specs.Laws.Rules.{never_rule}
 use Rattle.esr_complete.specs.Lines.{entries_of}
 use Rattle.esr_complete.specs.Answers.{IsAnswer, AreAnsweredIn, AreAnswered, EndsWell}
 use Rattle.esr_complete.proofs.Facts.{Fact}

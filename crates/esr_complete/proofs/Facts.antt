@@ -16,8 +16,9 @@ use Rattle.esr_report.specs.Cleaned.{is_cleanup_ticket}
 use Rattle.esr_report.specs.Replies.{Reply, Deleted, Cleaned, Refused, refused_reply, name_by, name_of_op, names_it, fails_swap, has_fallen, deposed_by, end_of_op, restore_reply, ask_reply, look_reply, is_election_step, is_election, election_reply}
 use Rattle.esr_report.specs.Aborts.{accepted_by}
 use Rattle.esr_desk.specs.Start.{Start, world_of}
-use Rattle.esr_quiet.specs.Refusals.{IsByRule, IsOfCleanup, IsOfRule, IsOfTerm, AreByRule}
-use Rattle.esr_quiet.specs.RuleLaws.{never_rule}
+use Rattle.esr_core.specs.Refusing.{IsByRule}
+use Rattle.esr_quiet.specs.Refusals.{IsOfCleanup, IsOfRule, IsOfTerm, AreByRule}
+use Rattle.esr_core.specs.Laws.Rules.{never_rule}
 use Rattle.esr_quiet.specs.Smooth.{IsSmooth, NoneFailed, NoneUndeleted, NoneUnrestored}
 use Rattle.esr_complete.specs.Lines.{entries_of}
 use Rattle.esr_complete.specs.Answers.{IsIdle, IsDeletedBy, IsCleaningBy, IsAnswer}
@@ -174,8 +175,7 @@ elected_by script before reply calm said = absurd said
 
 elects_by : (who : Bool) (step : Step) → (who && is_election_step step) ≡ true → step ≡ ElectStep
 elects_by true ElectStep e = refl
-elects_by true step e = absurd (true≢false (sym e))
-elects_by false step e = absurd (true≢false (sym e))
+elects_by who step e = absurd (true≢false (sym e))
 
 fact_by : (script : List ScriptLine) (all : List Entry) (e : Entry) → IsCalm (Unit {0}) e.reply e.step → IsSaid e.step e.reply → ((front back : List Entry) → all ≡ front ++ e ∷ back → IsAskedIn front e.reply) → AsksAll script all
     → AreEnded all e.step e.reply → AreDeleted all e.step e.reply → IsAnswered all e.reply

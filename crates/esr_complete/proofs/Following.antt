@@ -472,15 +472,6 @@ by_other ticket op unit k le = elim (eqb_tells ticket k) [
 none_some : (o : ℕ) → ◌≡◌ {A = Option ℕ} None (Some o) → ⊥
 none_some o e = cc
 
-no_settle : TakeStep ≡ SettleStep → ⊥
-no_settle e = cc
-
-no_prune : TakeStep ≡ PruneStep SettlePruned → ⊥
-no_prune e = cc
-
-no_drop : TakeStep ≡ DroppedStep → ⊥
-no_drop e = cc
-
 no_delete : (p : Bool × ℕ) → ◌≡◌ {A = Option (Bool × ℕ)} None (Some p) → ⊥
 no_delete p e = cc
 
@@ -551,9 +542,9 @@ module _ (deposed : Bool) (ops now : Ops) (open_deletes : Deletes) (tickets : Ti
           | inr mine ↦ record { t = t; there = ap (fin.get (fin.insert tickets next t)) (sym mine.1) ∙ same_in tickets next t; op_is = op_is ∙ mine.0; is = outs mine.2 }
         ];
         said = said_on es x h.said tt;
-        settles = settles_on es x next_op next_op same_next no_name h.settles (λ step. absurd (no_settle step));
-        prunes = prunes_on es x next_op next_op same_next no_name known h.prunes (λ step. absurd (no_prune step));
-        leaves = leaves_on es x next_op next_op same_next no_name known h.leaves (λ step. absurd (no_drop step));
+        settles = settles_on es x next_op next_op same_next no_name h.settles (λ step. absurd cc);
+        prunes = prunes_on es x next_op next_op same_next no_name known h.prunes (λ step. absurd cc);
+        leaves = leaves_on es x next_op next_op same_next no_name known h.leaves (λ step. absurd cc);
         ended = ended_on es x next_op next_op same_next no_name ops now h.ended (λ o name was. inl (kept o was)) (λ o e. absurd (none_some o e));
         deleted = deleted_on es x next_op next_op same_next no_name known open_deletes open_deletes h.deleted (λ cleans d nameless was. inl was) (λ cleans d e. absurd (no_delete (cleans, d) e));
       }
@@ -582,9 +573,9 @@ handed_on deposed ops deletes tickets next next_op es op unit no_final h =
       units = λ k u e. unit_on es x next_op next_op same none u u (h.units k u e) refl refl (λ is. is) (λ info results made is. is) (λ uuids plan is. (plan, is));
       final = λ o k e. elim (final_gave o (final_out es o) op unit next k (sym (final_on o es x) ∙ e)) [ inl before ↦ h.final o k before | inr mine ↦ absurd (no_final mine.2) ];
       said = said_on es x h.said tt;
-      settles = settles_on es x next_op next_op same none h.settles (λ step. absurd (no_settle step));
-      prunes = prunes_on es x next_op next_op same none known h.prunes (λ step. absurd (no_prune step));
-      leaves = leaves_on es x next_op next_op same none known h.leaves (λ step. absurd (no_drop step));
+      settles = settles_on es x next_op next_op same none h.settles (λ step. absurd cc);
+      prunes = prunes_on es x next_op next_op same none known h.prunes (λ step. absurd cc);
+      leaves = leaves_on es x next_op next_op same none known h.leaves (λ step. absurd cc);
       ended = ended_on es x next_op next_op same none ops ops h.ended (λ o name was. inl was) (λ o e. absurd (none_some o e));
       deleted = deleted_on es x next_op next_op same none known deletes deletes h.deleted (λ cleans d nameless was. inl was) (λ cleans d e. absurd (no_delete (cleans, d) e));
     }

@@ -79,10 +79,9 @@ told_stays es x y (NotRestored why) h none = absurd h
 
 -- the state that is told where the shard waits no more
 over_restored : (es : List Entry) (y : ReadShard) (state : ReadState) → waits state ≡ false → IsToldAs es y state → IsRestored es y
-over_restored es y Unread over h = absurd (true≢false over)
-over_restored es y (BeingRead k) over h = absurd (true≢false over)
 over_restored es y (Restored files bytes) over h = h
 over_restored es y (NotRestored why) over h = absurd h
+over_restored es y state over h = absurd (true≢false over)
 
 restored_on : (restores now : Restores) (es : List Entry) (x : Entry) → AreRestored restores es
     → ((o uuid : ℕ) (p : IndexRef × ℕ) → IsOpenAt restores o uuid p → IsOpenAt now o uuid p ⊎ IsRestored (es ++ x ∷ []) (read_shard o uuid p))

@@ -9,7 +9,7 @@ use Rattle.esr_core.specs.World.{World, Caller, no_caller, Opened, OpenedEmpty, 
 use Rattle.esr_core.specs.Entry.{Asked, Cleanup, Read, ReadBlob, CheckedAll, DrawTest, VerifiedAll, ReadFails, Why, Step, AskStep, TakeStep, ElectStep, LookStep, ReadStep, HasEnded, DeposedAt, Reply, Refused, Entry, Moment}
 use Rattle.esr_core.specs.After.{told_blob, is_heard, caller_told, caller_wrote, caller_read, caller_after}
 use Rattle.esr_core.specs.Allowed as allowed
-use Rattle.esr_core.specs.Allowed.{ReadAllows, ReadFound, ReadMissing, ReadFault, RestoringShard, ReaderFailing, CheckingAll, CheckFailing, VerifyAllows, DrawingTest, TestSpent, BeginningTest, BeginTestFails, CommittingTest, TestTaken, CommitTestFails, RemovingTests, RemoveTestsFails, VerifyingAll, VerifyFailing, Allows, Allowed}
+use Rattle.esr_core.specs.Allowed.{ReadAllows, ReadFound, ReadFault, ReaderFailing, CheckingAll, CheckFailing, VerifyAllows, DrawingTest, BeginningTest, CommittingTest, RemovingTests, VerifyingAll, VerifyFailing, Allows, Allowed}
 use Rattle.esr_script.specs.declared.item.Item.{Item}
 use Rattle.esr_script.specs.declared.item.Item.TheVariants as items
 use Rattle.esr_script.specs.declared.item.ScriptLine.{ScriptLine}
@@ -185,26 +185,21 @@ module _ (f : Formats) (size : ℕ) (w : World) where
   reads : (read : Read) (reply : Reply) (image : Option Image) → IsCalm (Unit {0}) reply (ReadStep read) → GoesWell (ReadStep read) reply → ReadAllows f w 0 read reply image
       → OneTurn c.drawn (caller_read f c read reply image).drawn (by_nobody (ReadStep read) reply)
   reads read reply image calm well (ReadFound k name im stored by there) = AsideTurn refl refl (told_drawn name (told_blob f im name))
-  reads read reply image calm well (ReadMissing k name im stored by none) = AsideTurn refl refl refl
   reads read reply image calm well (ReadFault k name im stored by) = absurd calm
-  reads read reply image calm well (RestoringShard k files bytes im q out done) = AsideTurn refl refl refl
   reads read reply image calm well (ReaderFailing k why im q out) = absurd (well.0 why refl refl)
   reads read reply image calm well (CheckingAll snapshots blobs im checks) = absurd (well.1 snapshots blobs refl)
   reads read reply image calm well (CheckFailing why im looked) = absurd (well.0 why refl refl)
+  reads read reply image calm well other = AsideTurn refl refl refl
 
   verifies : (read : Read) (reply : Reply) (image : Option Image) → IsCalm (Unit {0}) reply (ReadStep read) → GoesWell (ReadStep read) reply → VerifyAllows f w read reply image
       → OneTurn c.drawn (caller_read f c read reply image).drawn (by_nobody (ReadStep read) reply)
   verifies read reply image calm well (DrawingTest im idle fits same) = DrawTurn w.next_id refl refl refl idle.undrawn refl
-  verifies read reply image calm well (TestSpent im idle spent same) = absurd calm
   verifies read reply image calm well (BeginningTest name im own same) = AsideTurn refl refl refl
-  verifies read reply image calm well (BeginTestFails name im own same) = absurd calm
   verifies read reply image calm well (CommittingTest name bytes im own new adds) = AsideTurn refl refl (wrote_drawn name (told_blob f im name))
-  verifies read reply image calm well (TestTaken name im own there) = absurd calm
-  verifies read reply image calm well (CommitTestFails name bytes im own leaves) = absurd calm
   verifies read reply image calm well (RemovingTests names im may left) = AsideTurn refl refl refl
-  verifies read reply image calm well (RemoveTestsFails names im may left) = absurd calm
   verifies read reply image calm well (VerifyingAll im done same) = EndTurn done.id refl refl refl refl done.drawn refl
   verifies read reply image calm well (VerifyFailing why im begun same) = absurd (well.0 why refl refl)
+  verifies read reply image calm well other = absurd calm
 
   by_read : (read : Read) (reply : Reply) (image : Option Image) → IsCalm (Unit {0}) reply (ReadStep read) → GoesWell (ReadStep read) reply → Allows f size w 0 (ReadStep read) reply image
       → OneTurn c.drawn (caller_read f c read reply image).drawn (by_nobody (ReadStep read) reply)

@@ -12,8 +12,9 @@ use Rattle.esr_bounds.specs.Others.{lost_at, lost_in}
 use Rattle.esr_desk.specs.Start.{Start, Legal, formats_of}
 use Rattle.esr_quiet.specs.Asked.{is_line_ask, as_asked, asked_steps}
 use Rattle.esr_quiet.specs.Smooth.{IsSmooth, IsSpent, EachFetchFinds}
-use Rattle.esr_quiet.specs.Refusals.{IsByRule, AreByRule}
-use Rattle.esr_quiet.specs.RuleLaws.{never_rule}
+use Rattle.esr_core.specs.Refusing.{IsByRule}
+use Rattle.esr_quiet.specs.Refusals.{AreByRule}
+use Rattle.esr_core.specs.Laws.Rules.{never_rule}
 use Rattle.esr_quiet.specs.PrefixLaws.{place_of}
 use Rattle.esr_complete.proofs.Histories.{OpenedLaws, opened_in_order}
 

@@ -8,8 +8,9 @@ use Rattle.esr_core.specs.World.{World}
 use Rattle.esr_core.specs.Allowed.{Blocks, ByFailedSwap, ByDelete}
 use Rattle.esr_core.specs.After.{or_else}
 use Rattle.esr_core.specs.Laws.Tests.{same_number}
-use Rattle.esr_quiet.specs.Refusals.{IsByRule, IsSwapStep}
-use Rattle.esr_quiet.specs.RuleLaws.{never_rule}
+use Rattle.esr_core.specs.Refusing.{IsByRule}
+use Rattle.esr_quiet.specs.Refusals.{IsSwapStep}
+use Rattle.esr_core.specs.Laws.Rules.{never_rule}
 use Rattle.esr_report.specs.Cleaned.{is_cleanup_ticket, blobs_gone, bytes_gone}
 use Rattle.esr_report.specs.Replies as report
 use Rattle.esr_report.specs.Replies.{Made, Deleted, Cleaned, Aborted, op_of_ticket, uuid_of_ticket, is_op, is_stale, fails_by, delete_of_ticket, cleaned_by, ends_by, ends_at, name_of_op, final_out, names_it, abort_of, aborts_at, end_of_op}
@@ -83,9 +84,8 @@ of_uuid (Some u) = tt
 
 -- of a cleanup's settle nothing is answered
 of_op : (cleans : Bool) (op : Option ℕ) → OverOrNone cleans (option_map Deleted (if cleans then None else op))
-of_op true op = tt
 of_op false None = tt
-of_op false (Some o) = tt
+of_op cleans op = tt
 
 of_drop : (all : List Entry) (who : ℕ) (cleans is_cleanup : Bool) → (is_cleanup ≡ true → cleans ≡ true) → OverOrNone cleans (cleaned_by all who is_cleanup)
 of_drop all who true true cleans_is = tt
@@ -159,13 +159,11 @@ one_reply : (a b : report.Reply) → Some a ≡ Some b → a ≡ b
 one_reply a b e = cc
 
 abort_told : (name : Option Bytes) (k : Option ℕ) (step : Step) (reply : Reply) (answer : report.Reply) → abort_of name k step reply ≡ Some answer → IsAbort name step reply answer
-abort_told None k step reply answer e = absurd (none-some answer e)
-abort_told (Some name) (Some k) step reply answer e = absurd (none-some answer e)
 abort_told (Some name) None (AskStep command) (Accepted d) answer e = elim (cases_Bool (names_it command name)) [
   | inl t ↦ record { by = d; of = name; command = command; name_is = refl; step_is = refl; reply_is = refl; named = t; answer_is = sym (one_reply (Aborted d) answer (sym (cond-true _ _ _ t) ∙ e)) }
   | inr t ↦ absurd (none-some answer (sym (cond-false _ _ _ t) ∙ e))
 ]
-abort_told (Some name) None step reply answer e = absurd (none-some answer e)
+abort_told name k step reply answer e = absurd (none-some answer e)
 
 -- it is of an op with a name
 pub abort_names : (front : List Entry) (o : ℕ) (e : Entry) (answer : report.Reply) → aborts_at front o e ≡ Some answer → (name : Bytes) × (name_of_op front o ≡ Some name)

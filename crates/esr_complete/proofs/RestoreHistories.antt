@@ -6,7 +6,7 @@ use Rattle.esr_model.specs.Places.{places}
 use Rattle.esr_model.specs.Kept.{first_id, Kept}
 use Rattle.esr_model.specs.Shelf.{Shelved}
 use Rattle.esr_model.specs.Image.{Blobs, Image}
-use Rattle.esr_core.specs.World.{World, ReadState, Unread, BeingRead, Restored, NotRestored, RestoreShard, Restoring, Reader, opened, Opened, OpenedEmpty, OpenedRecord, no_record, no_root}
+use Rattle.esr_core.specs.World.{World, ReadState, Unread, BeingRead, RestoreShard, Restoring, Reader, opened, Opened, OpenedEmpty, OpenedRecord, no_record, no_root}
 use Rattle.esr_core.specs.Restores.{waits}
 use Rattle.esr_core.specs.ReadTracked.{RestoresTracked}
 use Rattle.esr_core.specs.Ready.{AnyReady, ARestore}
@@ -95,8 +95,7 @@ restore_ready w o r t there none_out =
     ready : (s : RestoreShard) → Has r.shards s → (state : ReadState) → s.state ≡ state → waits state ≡ true → AnyReady w
     ready s m Unread is waiting = ARestore o r s (record { there = there; s_there = m; unread = is })
     ready s m (BeingRead k) is waiting = let h = t.held o r s k there m is in absurd (none_out k h.q h.there h.out)
-    ready s m (Restored files bytes) is waiting = absurd (true≢false (sym waiting))
-    ready s m (NotRestored why) is waiting = absurd (true≢false (sym waiting))
+    ready s m state is waiting = absurd (true≢false (sym waiting))
 
 none_open_at : Laws → (s : Start) (log : List Moment) → IsSmooth s log → IsIdle s log → (o : ℕ) (r : Restoring) → fin.get (world_of s log).restores o ≡ Some r → ⊥
 none_open_at laws s log smooth idle o r there =

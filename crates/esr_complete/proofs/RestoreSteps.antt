@@ -1,6 +1,5 @@
 -- Each step where no restore fails keeps what the history tells of restores.
-use Rattle.std.proofs.Common.{◌≡◌, ℕ, zero, suc, ◌≤◌, true, false, List, [], ◌∷◌, ◌++◌, Option, Some, None, refl, sym, subst, inl, inr, arith}
-use Rattle.std.specs.Prelude.{T}
+use Rattle.std.proofs.Common.{◌≡◌, ℕ, zero, suc, ◌≤◌, false, List, [], ◌∷◌, ◌++◌, Option, Some, None, refl, sym, subst, inl, inr, arith}
 use Rattle.std.specs.FinMap as fin
 use Rattle.esr_model.specs.Names.{BlobName}
 use Rattle.esr_model.specs.Values.{Bytes, IndexRef, Formats}
@@ -9,11 +8,10 @@ use Rattle.esr_model.specs.Image.{Image}
 use Rattle.esr_core.specs.World.{World, Restored, RestoreShard, Restoring, Reader}
 use Rattle.esr_core.specs.Restores.{IsReading, read_more}
 use Rattle.esr_core.specs.ReadTracked.{ReaderTracked, RestoresTracked}
-use Rattle.esr_core.specs.Entry.{Asked, Restore, Clone, CloneOf, DeleteSnapshots, Cleanup, is_recorded, Given, GivenShard, GivenFinalize, GivenDrop, GivenRestore, GivenClone, GivenDelete, GivenCleanup, Why, Read, ReadBlob, RestoredShard, CheckedAll, CommitTest, ReadFails, Prune, SettlePruned, Step, AskStep, TakeStep, ReadStep, PruneStep, NoSnapshot, BeingDeleted, TooMany, DepotFault, CleanupRunning, Reply, Accepted, Gave, WasSettled, WasFetched, WasAbsent, HasEnded, Refused, AcceptedRestore, Entry, Moment}
-use Rattle.esr_core.specs.Deletes.{delete_number}
+use Rattle.esr_core.specs.Entry.{Restore, Given, GivenShard, GivenFinalize, GivenDrop, GivenRestore, GivenClone, GivenDelete, GivenCleanup, Why, Read, ReadBlob, RestoredShard, CheckedAll, CommitTest, ReadFails, Prune, SettlePruned, Step, AskStep, TakeStep, ReadStep, PruneStep, DepotFault, CleanupRunning, Reply, Gave, WasSettled, WasFetched, WasAbsent, HasEnded, Refused, AcceptedRestore, Entry, Moment}
 use Rattle.esr_core.specs.After.{told_blob, taken_restore, taken_restore_shard, read_told, shard_over, read_over, read_by, test_left, answered, after}
 use Rattle.esr_core.specs.Allowed as allowed
-use Rattle.esr_core.specs.Allowed.{Gives, GivesRestore, CloneAllows, OpeningClone, DeleteAllows, GoingInto, CleanupAllows, OpeningCleanup, RestoreAllows, OpeningRestore, NotListed, NamedByDelete, FullOfRestores, ReadAllows, ReadFound, ReadMissing, ReadFault, RestoringShard, ReaderFailing, CheckingAll, CheckFailing, VerifyAllows, CommitTestFails, SettlingDelete, PruneAllows, Allows, Allowed}
+use Rattle.esr_core.specs.Allowed.{Gives, GivesRestore, ReadAllows, ReadFound, ReadMissing, ReadFault, RestoringShard, ReaderFailing, CheckingAll, CheckFailing, VerifyAllows, CommitTestFails, SettlingDelete, PruneAllows, Allows, Allowed}
 use Rattle.esr_core.specs.Laws.RestoreShards.{shard_is}
 use Rattle.esr_report.specs.Replies.{ReadShard, shard_ticket_by, shard_end_by}
 use Rattle.esr_core.specs.Laws.RestoreFrames.{IsOld, goes_answered}
@@ -57,28 +55,6 @@ module _ (f : Formats) (size : ℕ) (w : World) (es : List Entry) (h : RestoresI
   begins name place o uuid indices image is =
       subst (λ (n : ℕ). RestoresIn (answered f w 0 (AskStep (Restore name place)) (AcceptedRestore o uuid indices) image) (es ++ told 0 (AskStep (Restore name place)) (AcceptedRestore n uuid indices) ∷ [])) (sym is)
       (restore_begins w.restores w.readers w.next_op w.next_ticket es h t.tracked name place uuid indices)
-
-  asks : (name place : Bytes) (reply : Reply) (image : Option Image) → RestoreAllows f w name reply image → RestoresIn (answered f w 0 (AskStep (Restore name place)) reply image) (es ++ told 0 (AskStep (Restore name place)) reply ∷ [])
-  asks name place reply image (OpeningRestore o uuid indices im acc) = begins name place o uuid indices im acc.number
-  asks name place reply image (NotListed im none) = same (told 0 (AskStep (Restore name place)) (Refused (NoSnapshot 0))) (silent_caller (AskStep (Restore name place)) (Refused (NoSnapshot 0)) (λ y. refl) refl)
-  asks name place reply image (NamedByDelete uuid d im listed named) = same (told 0 (AskStep (Restore name place)) (Refused (BeingDeleted d))) (silent_caller (AskStep (Restore name place)) (Refused (BeingDeleted d)) (λ y. refl) refl)
-  asks name place reply image (FullOfRestores uuid im listed spared full) = same (told 0 (AskStep (Restore name place)) (Refused (TooMany 1000))) (silent_caller (AskStep (Restore name place)) (Refused (TooMany 1000)) (λ y. refl) refl)
-
-  -- a delete leaves restores
-  asks_delete : (names : List Bytes) (reply : Reply) (image : Option Image) → DeleteAllows w names reply → RestoresIn (answered f w 0 (AskStep (DeleteSnapshots names)) reply image) (es ++ told 0 (AskStep (DeleteSnapshots names)) reply ∷ [])
-  asks_delete names reply image (GoingInto acc) = aside 0 (AskStep (DeleteSnapshots names)) (Accepted (delete_number w names)) image tt (λ y. refl) refl refl
-  asks_delete names reply image other = aside 0 (AskStep (DeleteSnapshots names)) reply image tt (λ y. refl) refl refl
-
-  -- so does a cleanup
-  asks_cleanup : (reply : Reply) (image : Option Image) → CleanupAllows w reply → RestoresIn (answered f w 0 (AskStep Cleanup) reply image) (es ++ told 0 (AskStep Cleanup) reply ∷ [])
-  asks_cleanup reply image (OpeningCleanup acc) = aside 0 (AskStep Cleanup) (Accepted w.next_op) image tt (λ y. refl) refl refl
-  asks_cleanup reply image other = aside 0 (AskStep Cleanup) reply image tt (λ y. refl) refl refl
-
-  -- a clone leaves them, too
-  asks_clone : (source name : Bytes) (names : List Bytes) (time : ℕ) (taken : Option CloneOf) (reply : Reply) (image : Option Image) → CloneAllows f w source name names time taken reply image
-      → RestoresIn (answered f w 0 (AskStep (Clone source name names time taken)) reply image) (es ++ told 0 (AskStep (Clone source name names time taken)) reply ∷ [])
-  asks_clone source name names time taken reply image (OpeningClone t o im acc) = aside 0 (AskStep (Clone source name names time (Some t))) (Accepted o) im tt (λ y. refl) refl refl
-  asks_clone source name names time taken reply image other = aside 0 (AskStep (Clone source name names time taken)) reply image tt (λ y. refl) refl refl
 
   gives_restore : (o index number uuid : ℕ) → GivesRestore w o index number uuid → RestoresIn (taken_restore w o index number (fin.get w.restores o)) (es ++ gave w.next_ticket o (GivenRestore index number uuid) ∷ [])
   gives_restore o index number uuid g =
@@ -136,8 +112,7 @@ module _ (f : Formats) (size : ℕ) (w : World) (es : List Entry) (h : RestoresI
 
   left_by : (name key : BlobName) (was now : Option Bytes) → RestoresIn (test_left w name was now) (es ++ told 0 (ReadStep (CommitTest key)) (Refused DepotFault) ∷ [])
   left_by name key None (Some bytes) = same (told 0 (ReadStep (CommitTest key)) (Refused DepotFault)) (silent_caller (ReadStep (CommitTest key)) (Refused DepotFault) (λ y. refl) refl)
-  left_by name key None None = same (told 0 (ReadStep (CommitTest key)) (Refused DepotFault)) (silent_caller (ReadStep (CommitTest key)) (Refused DepotFault) (λ y. refl) refl)
-  left_by name key (Some was) now = same (told 0 (ReadStep (CommitTest key)) (Refused DepotFault)) (silent_caller (ReadStep (CommitTest key)) (Refused DepotFault) (λ y. refl) refl)
+  left_by name key was now = same (told 0 (ReadStep (CommitTest key)) (Refused DepotFault)) (silent_caller (ReadStep (CommitTest key)) (Refused DepotFault) (λ y. refl) refl)
 
   verifies : (read : Read) (reply : Reply) (image : Option Image) → VerifyAllows f w read reply image → RestoresIn (answered f w 0 (ReadStep read) reply image) (es ++ told 0 (ReadStep read) reply ∷ [])
   verifies read reply image (CommitTestFails name bytes im own leaves) = left_by name name (fin.get w.blobs (f.names.text name)) (told_blob f im name)
@@ -151,19 +126,14 @@ module _ (f : Formats) (size : ℕ) (w : World) (es : List Entry) (h : RestoresI
 
   -- ---- each answer
 
-  -- the record has no restore
-  recorded_old : (command : Asked) (reply : Reply) → is_recorded command ≡ true → IsOld (AskStep command) reply
-  recorded_old command reply is = subst T (sym is) tt
-
   restores_by : (who : ℕ) (step : Step) (reply : Reply) (image : Option Image) → Allows f size w who step reply image → IsUnfailed who step reply → RestoresIn (answered f w who step reply image) (es ++ told who step reply ∷ [])
-  restores_by who step reply image (allowed.AskingRestore name place rep im a same) un = asks name place rep im a
-  restores_by who step reply image (allowed.AskingClone source name names time taken rep im a same) un = asks_clone source name names time taken rep im a
-  restores_by who step reply image (allowed.AskingDelete names rep im a same) un = asks_delete names rep im a
-  restores_by who step reply image (allowed.AskingCleanup rep im a same) un = asks_cleanup rep im a
+  restores_by who step reply image (allowed.OpeningRestore name place o uuid indices im a unmoved) un = begins name place o uuid indices im a.number
   restores_by who step reply image (allowed.Giving k o unit im is lowest g same) un = gives k o unit im is g
   restores_by who step reply image (allowed.Reading k read rep im a same) un = reads k read rep im a un
   restores_by who step reply image (allowed.Verifying read rep im a) un = verifies read rep im a
-  restores_by who step reply image (allowed.Cleaning command d x im recorded untaken there clean same) un = aside 0 (AskStep command) (Refused (CleanupRunning d)) im (recorded_old command (Refused (CleanupRunning d)) recorded) (λ y. refl) refl refl
+  restores_by who step reply image (allowed.Ruled command refusal im (allowed.Cleaning c d x recorded untaken there clean) unmoved) un =
+      same (told 0 (AskStep c) (Refused (CleanupRunning d))) (silent_caller (AskStep c) (Refused (CleanupRunning d)) (λ y. refl) refl)
+  restores_by who step reply image (allowed.Ruled command refusal im rule unmoved) un = same (told 0 (AskStep command) (Refused refusal)) (silent_caller (AskStep command) (Refused refusal) (λ y. refl) refl)
   restores_by who step reply image (allowed.Pruning k prune rep im p) un = prunes k prune rep im p
   restores_by who step reply image other un = aside who step reply image tt (λ y. refl) refl refl
 

@@ -68,8 +68,7 @@ not_second false b c d p = refl
 
 not_third : (a b c d : Bool) → c ≡ false → (a && b && c && d) ≡ false
 not_third true true c d p = ap (λ (x : Bool). true && true && x && d) p
-not_third true false c d p = refl
-not_third false b c d p = refl
+not_third a b c d p = refl
 
 pub same_true : (y : ReadShard) → same_shard y y ≡ true
 same_true y = all_four (y.op == y.op) (y.index == y.index) (y.number == y.number) (y.uuid == y.uuid) (same_number y.op) (same_number y.index) (same_number y.number) (same_number y.uuid)

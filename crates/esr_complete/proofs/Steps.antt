@@ -10,17 +10,17 @@ use Rattle.esr_model.specs.Values.{Bytes, Has, SnapInfo, ShardResult, Formats}
 use Rattle.esr_model.specs.Shelf.{Shelved, Command}
 use Rattle.esr_model.specs.Delete.{PrunedShard, kept_count}
 use Rattle.esr_model.specs.Image.{Image}
-use Rattle.esr_core.specs.World.{World, Op, Deletion, ShardWork, Done, Shard, Finalize, Deleting, Drop, Swap, Ticket, RestoreShard, Restoring, marked, info_of, made_of}
+use Rattle.esr_core.specs.World.{World, Op, Deletion, ShardWork, Done, Finalize, Deleting, Drop, Swap, Ticket, RestoreShard, Restoring, marked, info_of, made_of}
 use Rattle.esr_core.specs.Ready.{ReadyDrop, ReadyDelete, ReadyCleanup}
 use Rattle.esr_core.specs.Steps.{with_ticket, shard_ticket, final_ticket, given, listing, plain_ticket}
 use Rattle.esr_core.specs.Turns.{cleaning_ticket}
 use Rattle.esr_core.specs.Pruning.{planned_work, planned, delete_swap}
 use Rattle.esr_core.specs.Deletes.{first_delete, runs_for, named_uuids, waiting_delete, running_delete, number_by, aborts_op, aborted_ops, with_named, delete_merged, delete_by}
 use Rattle.esr_core.specs.Ids.{Law}
-use Rattle.esr_core.specs.Entry.{AskedIndex, Asked, Snapshot, Clone, CloneOf, DeleteSnapshots, Restore, Cleanup, is_recorded, Given, GivenShard, GivenFinalize, GivenDrop, GivenRestore, GivenClone, GivenDelete, GivenCleanup, Read, ReadBlob, RestoredShard, CheckedAll, DrawTest, BeginTest, CommitTest, RemoveTests, VerifiedAll, ReadFails, Why, Prune, FetchShard, PlanShards, SettlePruned, RemoveDoomed, EndDelete, DeleteFails, Step, AskStep, TakeStep, DrawStep, BeginStep, CommitStep, LatestStep, FetchStep, ListStep, RaiseStep, SettleStep, DoneStep, FinishStep, DroppedStep, ElectStep, LookStep, ReadStep, PruneStep, CleanupRunning, NameInUse, TooMany, NoSnapshot, NoIndex, BeingDeleted, CloneRunning, RestoreRunning, BusyOp, StaleTerm, Reply, Accepted, NothingReady, Gave, DrawnFrom, WasBegun, WasDone, WasThere, WasReplaced, WasFetched, WasAbsent, WasListed, RaisedTo, WasSettled, HasEnded, ElectedTerm, Looked, Refused, WasRemoved, AcceptedRestore, Entry, Moment}
+use Rattle.esr_core.specs.Entry.{AskedIndex, Asked, Snapshot, Clone, CloneOf, DeleteSnapshots, Restore, Cleanup, Given, GivenShard, GivenFinalize, GivenDrop, GivenRestore, GivenClone, GivenDelete, GivenCleanup, Read, ReadBlob, RestoredShard, CheckedAll, DrawTest, BeginTest, CommitTest, RemoveTests, VerifiedAll, ReadFails, Why, Prune, FetchShard, PlanShards, SettlePruned, RemoveDoomed, EndDelete, DeleteFails, Step, AskStep, TakeStep, DrawStep, BeginStep, CommitStep, LatestStep, FetchStep, ListStep, RaiseStep, SettleStep, DoneStep, FinishStep, DroppedStep, ElectStep, LookStep, ReadStep, PruneStep, CleanupRunning, StaleTerm, Reply, Accepted, NothingReady, Gave, DrawnFrom, WasBegun, WasDone, WasThere, WasReplaced, WasFetched, WasAbsent, WasListed, RaisedTo, WasSettled, HasEnded, ElectedTerm, Looked, Refused, WasRemoved, AcceptedRestore, Entry, Moment, Refusal}
 use Rattle.esr_core.specs.After.{asked, cleanup_opened, asked_op, cloned_op, taken_by, taken_shard, taken_restore, taken_restore_shard, read_by, with_given, change, committing, fetching, told_blob, settled_of, done_of, done_by, is_stale, dropped_of, delete_settled, delete_failed_by, delete_failed, after}
 use Rattle.esr_core.specs.Allowed as allowed
-use Rattle.esr_core.specs.Allowed.{NoCleanup, Accepts, Gives, GivesShard, GivesFinalize, GivesRestore, Settles, Dones, HasCleaned, Drops, MayPlan, SettlesDeletion, FailsDeletion, CloneAllows, OpeningClone, CloneUsed, SourceNotListed, SourceDeleted, IndexMissing, FullOfClones, CloneSpent, CloneFault, DeleteAllows, GoingInto, NotNamed, CloneStands, RestoreStands, FullOfOps, CleanupAllows, OpeningCleanup, OpStands, TicketStands, CleanupFault, RestoreAllows, OpeningRestore, NotListed, NamedByDelete, FullOfRestores, ReadAllows, ReadFound, ReadMissing, ReadFault, RestoringShard, ReaderFailing, CheckingAll, CheckFailing, VerifyAllows, DrawingTest, BeginningTest, CommittingTest, RemovingTests, VerifyingAll, VerifyFailing, PruneAllows, FetchingShard, ShardMissing, Planning, SettlingDelete, SettleDeleteStale, RemovingDoomed, EndingDelete, FailingDelete, Allows, Allowed}
+use Rattle.esr_core.specs.Allowed.{NoCleanup, Accepts, Gives, GivesShard, GivesFinalize, GivesRestore, Settles, Dones, HasCleaned, Drops, MayPlan, SettlesDeletion, FailsDeletion, ReadAllows, ReadFound, ReadMissing, ReadFault, RestoringShard, ReaderFailing, CheckingAll, CheckFailing, VerifyAllows, DrawingTest, BeginningTest, CommittingTest, RemovingTests, VerifyingAll, VerifyFailing, PruneAllows, FetchingShard, ShardMissing, Planning, SettlingDelete, SettleDeleteStale, RemovingDoomed, EndingDelete, FailingDelete, Allows, Allowed}
 use Rattle.esr_core.specs.Laws.DeleteAsks.{Waits, waits}
 use Rattle.esr_core.specs.Laws.Asides.{IsNoTest, aside_by}
 use Rattle.esr_core.specs.Laws.Moments.{moment, settled_plain, delete_settled_plain}
@@ -95,6 +95,10 @@ plain_one es next more x up plain said =
       leaves = λ step reply. absurd (subst (λ (s : Step). IsPlain HasEnded s) step (subst (λ (r : Reply). IsPlain r x.step) reply plain));
     }
 
+said_refused : (command : Asked) (refusal : Refusal) → IsSaid (AskStep command) (Refused refusal)
+said_refused (Clone source name names time None) refusal = tt
+said_refused command refusal = tt
+
 none_is : {A : Type 0} (o : A) (found : Option A) → found ≡ None → found ≡ Some o → ⊥
 none_is o found none e = none-some o (sym none ∙ e)
 
@@ -117,29 +121,8 @@ by_names names = record { said = λ d. tt; op = λ d. refl; new = λ d. refl; un
 
 -- ---- what tickets are for
 
-shard_drop : (i n : ℕ) → Shard i n ≡ Drop → ⊥
-shard_drop i n e = cc
-
-shard_deleting : (i n : ℕ) (uuids : List ℕ) (plan : Option Swap) → Shard i n ≡ Deleting uuids plan → ⊥
-shard_deleting i n uuids plan e = cc
-
-shard_final : (i n : ℕ) (info : SnapInfo) (results : List ShardResult) (made : Command) → Shard i n ≡ Finalize info results made → ⊥
-shard_final i n info results made e = cc
-
-final_drop : (info : SnapInfo) (results : List ShardResult) (made : Command) → Finalize info results made ≡ Drop → ⊥
-final_drop info results made e = cc
-
-final_deleting : (info : SnapInfo) (results : List ShardResult) (made : Command) (uuids : List ℕ) (plan : Option Swap) → Finalize info results made ≡ Deleting uuids plan → ⊥
-final_deleting info results made uuids plan e = cc
-
 final_info : (a b : SnapInfo) (rs qs : List ShardResult) (m n : Command) → Finalize a rs m ≡ Finalize b qs n → a ≡ b
 final_info a b rs qs m n e = cc
-
-drop_final : (info : SnapInfo) (results : List ShardResult) (made : Command) → Drop ≡ Finalize info results made → ⊥
-drop_final info results made e = cc
-
-drop_deleting : (uuids : List ℕ) (plan : Option Swap) → Drop ≡ Deleting uuids plan → ⊥
-drop_deleting uuids plan e = cc
 
 deleting_drop : (uuids : List ℕ) (plan : Option Swap) → Deleting uuids plan ≡ Drop → ⊥
 deleting_drop uuids plan e = cc
@@ -149,33 +132,6 @@ deleting_final uuids plan info results made e = cc
 
 same_uuids : {a b : List ℕ} {p q : Option Swap} → Deleting a p ≡ Deleting b q → a ≡ b
 same_uuids e = cc
-
-ask_settle : (command : Asked) → AskStep command ≡ SettleStep → ⊥
-ask_settle command e = cc
-
-ask_prune : (command : Asked) → AskStep command ≡ PruneStep SettlePruned → ⊥
-ask_prune command e = cc
-
-ask_drop : (command : Asked) → AskStep command ≡ DroppedStep → ⊥
-ask_drop command e = cc
-
-settle_prune : SettleStep ≡ PruneStep SettlePruned → ⊥
-settle_prune e = cc
-
-settle_drop : SettleStep ≡ DroppedStep → ⊥
-settle_drop e = cc
-
-prune_drop : PruneStep SettlePruned ≡ DroppedStep → ⊥
-prune_drop e = cc
-
-drop_settle : DroppedStep ≡ SettleStep → ⊥
-drop_settle e = cc
-
-drop_prune : DroppedStep ≡ PruneStep SettlePruned → ⊥
-drop_prune e = cc
-
-prune_settle : PruneStep SettlePruned ≡ SettleStep → ⊥
-prune_settle e = cc
 
 -- the running delete is open
 running_there : (test : ℕ × Deletion → Bool) (deletes : List (ℕ × Deletion)) (d : ℕ) → first_delete test deletes ≡ Some d → (x : Deletion) × Has deletes (d, x)
@@ -299,9 +255,9 @@ module _ (f : Formats) (size : ℕ) (w : World) (es : List Entry) (h : FollowsIn
             no_ticket = λ k. (refl, refl, refl);
             no_name = λ o any. (elim (eqb_tells w.next_op o) [ inl t ↦ absurd (other o any t.1) | inr t ↦ cond-false _ _ _ t.0 ], refl);
             said = tt;
-            settles = λ step. absurd (ask_settle (Snapshot name indices time) step);
-            prunes = λ step. absurd (ask_prune (Snapshot name indices time) step);
-            leaves = λ step. absurd (ask_drop (Snapshot name indices time) step);
+            settles = λ step. absurd cc;
+            prunes = λ step. absurd cc;
+            leaves = λ step. absurd cc;
           }
 
       named : name_of_op (es ++ told 0 (AskStep (Snapshot name indices time)) (Accepted w.next_op) ∷ []) w.next_op ≡ Some name
@@ -349,9 +305,9 @@ module _ (f : Formats) (size : ℕ) (w : World) (es : List Entry) (h : FollowsIn
             no_ticket = λ k. (refl, refl, refl);
             no_name = λ o any. (elim (eqb_tells w.next_op o) [ inl t ↦ absurd (other o any t.1) | inr t ↦ cond-false _ _ _ t.0 ], refl);
             said = tt;
-            settles = λ step. absurd (ask_settle (Clone source name names time (Some taken)) step);
-            prunes = λ step. absurd (ask_prune (Clone source name names time (Some taken)) step);
-            leaves = λ step. absurd (ask_drop (Clone source name names time (Some taken)) step);
+            settles = λ step. absurd cc;
+            prunes = λ step. absurd cc;
+            leaves = λ step. absurd cc;
           }
 
       named : name_of_op (es ++ told 0 (AskStep (Clone source name names time (Some taken))) (Accepted w.next_op) ∷ []) w.next_op ≡ Some name
@@ -371,18 +327,6 @@ module _ (f : Formats) (size : ℕ) (w : World) (es : List Entry) (h : FollowsIn
   clones source name names time o taken is =
       subst (λ (n : ℕ). FollowsIn (asked w (Clone source name names time (Some taken))) (es ++ told 0 (AskStep (Clone source name names time (Some taken))) (Accepted n) ∷ [])) (sym is) (clones_next source name names time taken)
 
-  asks_clone : (stale : Type 0) (source name : Bytes) (names : List Bytes) (time : ℕ) (taken : Option CloneOf) (reply : Reply) (image : Option Image) → CloneAllows f w source name names time taken reply image
-      → IsCalm stale reply (AskStep (Clone source name names time taken))
-      → FollowsIn (after f w (moment 0 (AskStep (Clone source name names time taken)) reply image)) (es ++ told 0 (AskStep (Clone source name names time taken)) reply ∷ [])
-  asks_clone stale source name names time taken reply image (OpeningClone t o im a) calm = clones source name names time o t a.number
-  asks_clone stale source name names time taken reply image (CloneUsed uuid im clear is) calm = stays (told 0 (AskStep (Clone source name names time None)) (Refused (NameInUse uuid))) tt tt
-  asks_clone stale source name names time taken reply image (SourceNotListed im may none) calm = stays (told 0 (AskStep (Clone source name names time None)) (Refused (NoSnapshot 0))) tt tt
-  asks_clone stale source name names time taken reply image (SourceDeleted uuid d im may listed named) calm = stays (told 0 (AskStep (Clone source name names time None)) (Refused (BeingDeleted d))) tt tt
-  asks_clone stale source name names time taken reply image (IndexMissing uuid place im may first) calm = stays (told 0 (AskStep (Clone source name names time None)) (Refused (NoIndex place))) tt tt
-  asks_clone stale source name names time taken reply image (FullOfClones uuid im may full) calm = stays (told 0 (AskStep (Clone source name names time None)) (Refused (TooMany 1000))) tt tt
-  asks_clone stale source name names time taken reply image (CloneSpent uuid im may room spent) calm = absurd calm
-  asks_clone stale source name names time taken reply image (CloneFault t im acc) calm = absurd calm
-
   -- ---- a delete is asked for
 
   delete_one : (command : Asked) (names : List Bytes) (of : AsksFor command names) (d more : ℕ) → w.next_op ≤ more → IsOne es w.next_op more (told 0 (AskStep command) (Accepted d))
@@ -393,9 +337,9 @@ module _ (f : Formats) (size : ℕ) (w : World) (es : List Entry) (h : FollowsIn
         no_ticket = λ k. (refl, refl, refl);
         no_name = λ o any. of.unnamed o d;
         said = of.said d;
-        settles = λ step. absurd (ask_settle command step);
-        prunes = λ step. absurd (ask_prune command step);
-        leaves = λ step. absurd (ask_drop command step);
+        settles = λ step. absurd cc;
+        prunes = λ step. absurd cc;
+        leaves = λ step. absurd cc;
       }
 
   -- each open op is as it was, or its abort is told
@@ -470,7 +414,6 @@ module _ (f : Formats) (size : ℕ) (w : World) (es : List Entry) (h : FollowsIn
   -- or it is an op of its own
   opens : IsSafe f w es → (command : Asked) (names : List Bytes) (of : AsksFor command names) → FollowsIn (delete_by w names None None) (es ++ told 0 (AskStep command) (Accepted w.next_op) ∷ [])
   opens safe command names of =
-      let d : ℕ = w.next_op in
       let x : Entry = told 0 (AskStep command) (Accepted w.next_op) in
       let one : IsOne es w.next_op (suc w.next_op) x = delete_one command names of w.next_op (suc w.next_op) (one_up w.next_op) in
       let y : Deletion = record { uuids = named_uuids w names; clean = false; failed = false } in
@@ -489,15 +432,6 @@ module _ (f : Formats) (size : ℕ) (w : World) (es : List Entry) (h : FollowsIn
   goes_into safe clear command names of (Some d) running is runs = merges safe clear command names of d (waits w d is)
   goes_into safe clear command names of None (Some d) is runs = let (x, m) = running_there (runs_for w (named_uuids w names)) (fin.entries w.deletes) d runs in joins clear command names of d (x, entry_got w.deletes d x m)
   goes_into safe clear command names of None None is runs = opens safe command names of
-
-  asks_delete : (stale : Type 0) → IsSafe f w es → (names : List Bytes) (reply : Reply) (image : Option Image) → DeleteAllows w names reply → IsCalm stale reply (AskStep (DeleteSnapshots names))
-      → FollowsIn (after f w (moment 0 (AskStep (DeleteSnapshots names)) reply image)) (es ++ told 0 (AskStep (DeleteSnapshots names)) reply ∷ [])
-  asks_delete stale safe names reply image (GoingInto acc) calm = goes_into safe acc.may.no_cleanup (DeleteSnapshots names) names (by_names names) (waiting_delete w) (running_delete w (named_uuids w names)) refl refl
-  asks_delete stale safe names reply image (NotNamed place clear first) calm = stays (told 0 (AskStep (DeleteSnapshots names)) (Refused (NoSnapshot place))) tt tt
-  asks_delete stale safe names reply image (CloneStands o clear named lowest) calm = stays (told 0 (AskStep (DeleteSnapshots names)) (Refused (CloneRunning o))) tt tt
-  asks_delete stale safe names reply image (RestoreStands o clear named no_clone lowest) calm = stays (told 0 (AskStep (DeleteSnapshots names)) (Refused (RestoreRunning o))) tt tt
-  asks_delete stale safe names reply image (FullOfOps may new full) calm = stays (told 0 (AskStep (DeleteSnapshots names)) (Refused (TooMany 1000))) tt tt
-  asks_delete stale safe names reply image other calm = absurd calm
 
   -- ---- a cleanup is asked for
 
@@ -526,9 +460,9 @@ module _ (f : Formats) (size : ℕ) (w : World) (es : List Entry) (h : FollowsIn
             no_ticket = λ k. (refl, refl, refl);
             no_name = λ o any. (refl, elim (eqb_tells w.next_op o) [ inl t ↦ absurd (other o any t.1) | inr t ↦ t.0 ]);
             said = tt;
-            settles = λ step. absurd (ask_settle Cleanup step);
-            prunes = λ step. absurd (ask_prune Cleanup step);
-            leaves = λ step. absurd (ask_drop Cleanup step);
+            settles = λ step. absurd cc;
+            prunes = λ step. absurd cc;
+            leaves = λ step. absurd cc;
           }
 
       mine : IsNameless (es ++ told 0 (AskStep Cleanup) (Accepted w.next_op) ∷ []) (suc w.next_op) true w.next_op
@@ -541,22 +475,6 @@ module _ (f : Formats) (size : ℕ) (w : World) (es : List Entry) (h : FollowsIn
         | inr is ↦ deletes_stay (suc w.next_op) x one d z is.1
       ]
 
-  asks_cleanup : (stale : Type 0) (reply : Reply) (image : Option Image) → CleanupAllows w reply → IsCalm stale reply (AskStep Cleanup)
-      → FollowsIn (after f w (moment 0 (AskStep Cleanup) reply image)) (es ++ told 0 (AskStep Cleanup) reply ∷ [])
-  asks_cleanup stale reply image (OpeningCleanup acc) calm = opens_cleanup
-  asks_cleanup stale reply image (OpStands o clear lowest) calm = stays (told 0 (AskStep Cleanup) (Refused (BusyOp o))) tt tt
-  asks_cleanup stale reply image (TicketStands k none lowest) calm = absurd calm
-  asks_cleanup stale reply image (CleanupFault acc) calm = absurd calm
-
-  -- a command is asked for while a cleanup is open
-  cleaning : (command : Asked) (d : ℕ) → is_recorded command ≡ true → FollowsIn w (es ++ told 0 (AskStep command) (Refused (CleanupRunning d)) ∷ [])
-  cleaning (Snapshot name indices time) d recorded = stays (told 0 (AskStep (Snapshot name indices time)) (Refused (CleanupRunning d))) tt tt
-  cleaning (Clone source name names time None) d recorded = stays (told 0 (AskStep (Clone source name names time None)) (Refused (CleanupRunning d))) tt tt
-  cleaning (Clone source name names time (Some taken)) d recorded = stays (told 0 (AskStep (Clone source name names time (Some taken))) (Refused (CleanupRunning d))) tt tt
-  cleaning (DeleteSnapshots names) d recorded = stays (told 0 (AskStep (DeleteSnapshots names)) (Refused (CleanupRunning d))) tt tt
-  cleaning (Restore name place) d recorded = absurd (true≢false (sym recorded))
-  cleaning Cleanup d recorded = stays (told 0 (AskStep Cleanup) (Refused (CleanupRunning d))) tt tt
-
   -- ---- take
 
   gives_shard : (o index number : ℕ) (base : Option ℕ) → GivesShard w o index number None base → FollowsIn (taken_by f w o (GivenShard index number base) (fin.get w.ops o)) (es ++ gave w.next_ticket o (GivenShard index number base) ∷ [])
@@ -568,9 +486,9 @@ module _ (f : Formats) (size : ℕ) (w : World) (es : List Entry) (h : FollowsIn
       (subst (λ (y : Option ShardWork). FollowsIn (taken_shard w o g.op base y) (es ++ x ∷ [])) (sym g.found)
       (given_on w.deposed w.ops (fin.insert w.ops o op) w.deletes w.tickets w.next_ticket w.next_op es o (GivenShard index number base) h
       (shards_on w.next_op x (le_refl w.next_op) (λ q any. (refl, refl)) o g.op g.ready.op_there shards) (stands_on w.ops o op)
-      (shard_ticket w o g.op g.s base) refl refl (λ e. absurd (shard_drop g.s.ref.id g.s.number e)) (λ info results made e. absurd (shard_final g.s.ref.id g.s.number info results made e))
-      (λ uuids plan e. absurd (shard_deleting g.s.ref.id g.s.number uuids plan e)) (λ final. absurd final)
-      (λ info results made e. absurd (shard_final g.s.ref.id g.s.number info results made e))))
+      (shard_ticket w o g.op g.s base) refl refl (λ e. absurd cc) (λ info results made e. absurd cc)
+      (λ uuids plan e. absurd cc) (λ final. absurd final)
+      (λ info results made e. absurd cc)))
 
   -- a shard of a clone is given as another
   gives_clone : (o index number source : ℕ) (base : Option ℕ) → GivesShard w o index number (Some source) base
@@ -583,9 +501,9 @@ module _ (f : Formats) (size : ℕ) (w : World) (es : List Entry) (h : FollowsIn
       (subst (λ (y : Option ShardWork). FollowsIn (taken_shard w o g.op base y) (es ++ x ∷ [])) (sym g.found)
       (given_on w.deposed w.ops (fin.insert w.ops o op) w.deletes w.tickets w.next_ticket w.next_op es o (GivenClone index number source base) h
       (shards_on w.next_op x (le_refl w.next_op) (λ q any. (refl, refl)) o g.op g.ready.op_there shards) (stands_on w.ops o op)
-      (shard_ticket w o g.op g.s base) refl refl (λ e. absurd (shard_drop g.s.ref.id g.s.number e)) (λ info results made e. absurd (shard_final g.s.ref.id g.s.number info results made e))
-      (λ uuids plan e. absurd (shard_deleting g.s.ref.id g.s.number uuids plan e)) (λ final. absurd final)
-      (λ info results made e. absurd (shard_final g.s.ref.id g.s.number info results made e))))
+      (shard_ticket w o g.op g.s base) refl refl (λ e. absurd cc) (λ info results made e. absurd cc)
+      (λ uuids plan e. absurd cc) (λ final. absurd final)
+      (λ info results made e. absurd cc)))
 
   -- the ops stay as a ticket is given
   ops_given : (k o : ℕ) (unit : Given) (q : ℕ) (op : Op) → fin.get w.ops q ≡ Some op → IsToldOp (es ++ gave k o unit ∷ []) w.next_op q op
@@ -597,8 +515,8 @@ module _ (f : Formats) (size : ℕ) (w : World) (es : List Entry) (h : FollowsIn
       let all : List Entry = es ++ gave w.next_ticket o (GivenFinalize info results) ∷ [] in
       subst (λ (x : Option Op). FollowsIn (taken_by f w o (GivenFinalize info results) x) all) (sym g.ready.op_there)
       (given_on w.deposed w.ops w.ops w.deletes w.tickets w.next_ticket w.next_op es o (GivenFinalize info results) h (ops_given w.next_ticket o (GivenFinalize info results)) (λ p was. was) (final_ticket f w o g.op results) refl refl
-      (λ e. absurd (final_drop (info_of g.op results) results (made_of f w.blobs g.op) e)) (λ other rs made e. (g.op.name, (h.ops o g.op g.ready.op_there).named))
-      (λ uuids plan e. absurd (final_deleting (info_of g.op results) results (made_of f w.blobs g.op) uuids plan e))
+      (λ e. absurd cc) (λ other rs made e. (g.op.name, (h.ops o g.op g.ready.op_there).named))
+      (λ uuids plan e. absurd cc)
       (λ final. record { out = refl; unsettled = refl; final = tt })
       (λ other rs made e. ap (λ (y : SnapInfo). Some y.uuid) (g.info_is ∙ final_info (info_of g.op results) other results rs (made_of f w.blobs g.op) made e)))
 
@@ -615,7 +533,7 @@ module _ (f : Formats) (size : ℕ) (w : World) (es : List Entry) (h : FollowsIn
   gives_drop : (o : ℕ) → ReadyDrop w o → FollowsIn (taken_by f w o GivenDrop (fin.get w.ops o)) (es ++ gave w.next_ticket o GivenDrop ∷ [])
   gives_drop o ready =
       given_on w.deposed w.ops w.ops w.deletes w.tickets w.next_ticket w.next_op es o GivenDrop h (ops_given w.next_ticket o GivenDrop) (λ p was. was) (plain_ticket w o Drop) refl refl (λ e. (stopped o ready, refl))
-      (λ info results made e. absurd (drop_final info results made e)) (λ uuids plan e. absurd (drop_deleting uuids plan e)) (λ final. absurd final) (λ info results made e. absurd (drop_final info results made e))
+      (λ info results made e. absurd cc) (λ uuids plan e. absurd cc) (λ final. absurd final) (λ info results made e. absurd cc)
 
   gives_delete : (o : ℕ) (uuids : List ℕ) (x : Deletion) → ReadyDelete w o x → FollowsIn (taken_by f w o (GivenDelete uuids) (fin.get w.ops o)) (es ++ gave w.next_ticket o (GivenDelete uuids) ∷ [])
   gives_delete o uuids x ready =
@@ -698,8 +616,8 @@ module _ (f : Formats) (size : ℕ) (w : World) (es : List Entry) (h : FollowsIn
             no_name = λ o any. (refl, refl);
             said = tt;
             settles = λ step reply. (s.t.op, op_stays es (x ∷ []) k s.t.op (h.op_of k s.t s.may.out.there), named_on es x s.t.op named);
-            prunes = λ step. absurd (settle_prune step);
-            leaves = λ step. absurd (settle_drop step);
+            prunes = λ step. absurd cc;
+            leaves = λ step. absurd cc;
           }
 
       it : IsSettledIn (es ++ told k SettleStep WasSettled ∷ []) s.t.op
@@ -734,8 +652,8 @@ module _ (f : Formats) (size : ℕ) (w : World) (es : List Entry) (h : FollowsIn
           no_ticket = λ j. (refl, refl, refl);
           no_name = λ o any. (refl, refl);
           said = tt;
-          settles = λ step. absurd (drop_settle step);
-          prunes = λ step. absurd (drop_prune step);
+          settles = λ step. absurd cc;
+          prunes = λ step. absurd cc;
           leaves = λ step reply. (
             t.op,
             op_stays es (last ∷ []) k t.op (h.op_of k t there),
@@ -860,13 +778,13 @@ module _ (f : Formats) (size : ℕ) (w : World) (es : List Entry) (h : FollowsIn
             no_ticket = λ j. (refl, refl, refl);
             no_name = λ o any. (refl, refl);
             said = tt;
-            settles = λ step. absurd (prune_settle step);
+            settles = λ step. absurd cc;
             prunes = λ step reply. (
               s.t.op,
               op_stays es (x ∷ []) k s.t.op (h.op_of k s.t s.may.out.there),
               subst (λ (b : Bool). IsNameless (es ++ x ∷ []) w.next_op b s.t.op) (sym cleans_is) (nameless_on es x w.next_op w.next_op (le_refl w.next_op) (λ o any. (refl, refl)) s.t.clean s.t.op nameless),
             );
-            leaves = λ step. absurd (prune_drop step);
+            leaves = λ step. absurd cc;
           }
 
       leaves_with : (left : Deletes) → ((d : ℕ) (y : Deletion) → fin.get left d ≡ Some y → IsToldDelete (es ++ told k (PruneStep SettlePruned) WasSettled ∷ []) w.next_op d y)
@@ -932,13 +850,6 @@ module _ (f : Formats) (size : ℕ) (w : World) (es : List Entry) (h : FollowsIn
 
   -- ---- restores, and what is read
 
-  asks_restore : (name place : Bytes) (reply : Reply) (image : Option Image) → RestoreAllows f w name reply image
-      → FollowsIn (after f w (moment 0 (AskStep (Restore name place)) reply image)) (es ++ told 0 (AskStep (Restore name place)) reply ∷ [])
-  asks_restore name place reply image (OpeningRestore o uuid indices im acc) = stays_to (suc w.next_op) (one_up w.next_op) (told 0 (AskStep (Restore name place)) (AcceptedRestore o uuid indices)) tt tt
-  asks_restore name place reply image (NotListed im none) = stays (told 0 (AskStep (Restore name place)) (Refused (NoSnapshot 0))) tt tt
-  asks_restore name place reply image (NamedByDelete uuid d im listed named) = stays (told 0 (AskStep (Restore name place)) (Refused (BeingDeleted d))) tt tt
-  asks_restore name place reply image (FullOfRestores uuid im listed spared full) = stays (told 0 (AskStep (Restore name place)) (Refused (TooMany 1000))) tt tt
-
   reads_on : (k : ℕ) (read : Read) (reply : Reply) (image : Option Image) → IsNoTest read → IsPlain reply (ReadStep read) → FollowsIn (read_by f w k read reply image) (es ++ told k (ReadStep read) reply ∷ [])
   reads_on k read reply image no_test plain = follows_aside w (read_by f w k read reply image) (es ++ told k (ReadStep read) reply ∷ []) (aside_by f w k read reply image no_test) (stays (told k (ReadStep read) reply) plain tt)
 
@@ -989,15 +900,14 @@ module _ (f : Formats) (size : ℕ) (w : World) (es : List Entry) (h : FollowsIn
   follows_by who step reply image (allowed.Dropping k im c same) calm safe = drops k im c
   follows_by who step reply image (allowed.Electing im room same) calm safe = stays (told 0 ElectStep (ElectedTerm (suc w.term))) tt tt
   follows_by who step reply image (allowed.Looking im same) calm safe = stays (told 0 LookStep (Looked w.root.snapshots w.safe)) tt tt
-  follows_by who step reply image (allowed.Used name indices time uuid im clear is same) calm safe = stays (told 0 (AskStep (Snapshot name indices time)) (Refused (NameInUse uuid))) tt tt
-  follows_by who step reply image (allowed.Full name indices time im clear unused full same) calm safe = stays (told 0 (AskStep (Snapshot name indices time)) (Refused (TooMany 1000))) tt tt
-  follows_by who step reply image (allowed.AskingRestore name place rep im a same) calm safe = asks_restore name place rep im a
-  follows_by who step reply image (allowed.AskingClone source name names time taken rep im a same) calm safe = asks_clone (IsStaleIn w 0) source name names time taken rep im a calm
-  follows_by who step reply image (allowed.AskingDelete names rep im a same) calm safe = asks_delete (IsStaleIn w 0) safe names rep im a calm
-  follows_by who step reply image (allowed.AskingCleanup rep im a same) calm safe = asks_cleanup (IsStaleIn w 0) rep im a calm
+  follows_by who step reply image (allowed.OpeningRestore name place o uuid indices im acc same) calm safe = stays_to (suc w.next_op) (one_up w.next_op) (told 0 (AskStep (Restore name place)) (AcceptedRestore o uuid indices)) tt tt
+  follows_by who step reply image (allowed.OpeningClone source name names time o t im acc same) calm safe = clones source name names time o t acc.number
+  follows_by who step reply image (allowed.GoingInto names im acc same) calm safe = goes_into safe acc.may.no_cleanup (DeleteSnapshots names) names (by_names names) (waiting_delete w) (running_delete w (named_uuids w names)) refl refl
+  follows_by who step reply image (allowed.OpeningCleanup im acc same) calm safe = opens_cleanup
   follows_by who step reply image (allowed.Reading k read rep im a same) calm safe = reads (IsStaleIn w k) k read rep im a calm
   follows_by who step reply image (allowed.Verifying read rep im a) calm safe = verifies (IsStaleIn w 0) read rep im a calm
-  follows_by who step reply image (allowed.Cleaning command d x im recorded untaken there clean same) calm safe = cleaning command d recorded
+  follows_by who step reply image (allowed.Ruled command refusal im (allowed.Cleaning c d x recorded untaken there clean) same) calm safe = stays (told 0 (AskStep c) (Refused (CleanupRunning d))) tt (said_refused c (CleanupRunning d))
+  follows_by who step reply image (allowed.Ruled command refusal im rule same) calm safe = stays (told 0 (AskStep command) (Refused refusal)) tt tt
   follows_by who step reply image (allowed.Pruning k prune rep im p) calm safe = prunes k prune rep im p calm
   follows_by who step reply image (allowed.RaiseStale k im may apart same) calm safe = stays (told k RaiseStep (Refused (StaleTerm may.t.term w.term))) tt tt
   follows_by who step reply image (allowed.SettleStale k n t swapped im may apart same) calm safe = stays (told k SettleStep (Refused (StaleTerm t.term w.term))) tt tt

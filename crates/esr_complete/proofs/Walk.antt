@@ -1,5 +1,5 @@
 -- The replies along the lines.
-use Rattle.std.proofs.Common.{◌≡◌, ℕ, zero, suc, ◌+◌, ◌-◌, Bool, true, false, not, ◌==◌, ◌&&◌, ◌||◌, if◌then◌else◌, List, [], ◌∷◌, ◌++◌, append_assoc, length, length-append, take, Option, Some, None, map, option_map, refl, sym, ap, ◌∙◌, subst, inl, inr, arith}
+use Rattle.std.proofs.Common.{◌≡◌, ℕ, suc, ◌+◌, ◌-◌, Bool, true, false, not, ◌==◌, ◌&&◌, ◌||◌, if◌then◌else◌, List, [], ◌∷◌, ◌++◌, append_assoc, length, length-append, take, Option, Some, None, map, option_map, refl, sym, ap, ◌∙◌, subst, inl, inr, arith}
 use Rattle.std.proofs.lemmas.Bool.{cases_Bool, cond-true, cond-false}
 use Rattle.esr_model.specs.Values.{Bytes, Has}
 use Rattle.esr_core.specs.Entry as entry
@@ -252,10 +252,9 @@ module _ (script : List ScriptLine) where
       (neither (fails_swap x.step x.reply) (falls_before rest) (facts x (inl refl)).unfallen (unfallen_before all rest (λ y has. facts y (inr has))))
 
   in_take : (n : ℕ) (rest : List Entry) (x : Entry) → Has (take n rest) x → Has rest x
-  in_take zero rest x has = absurd has
-  in_take (suc n) [] x has = absurd has
   in_take (suc n) (y ∷ rest) x (inl same) = inl same
   in_take (suc n) (y ∷ rest) x (inr has) = inr (in_take n rest x has)
+  in_take n rest x has = absurd has
 
   unfallen_then : (all later rest : List Entry) → ((x : Entry) → Has rest x → Fact script all x) → falls_before (before_election later rest) ≡ false
   unfallen_then all later rest facts = unfallen_before all (before_election later rest) (λ x has. facts x (in_take (length rest - length (from_election later)) rest x has))

@@ -11,7 +11,7 @@ use Rattle.esr_report.specs.Status.{ending, AllOk, SomeRefused}
 use Rattle.esr_desk.specs.Start.{Start, world_of}
 use Rattle.esr_desk.specs.Grew.{NoneOut}
 use Rattle.esr_desk.specs.Own.{reader_of}
-use Rattle.esr_quiet.specs.Refusals.{RefusesSnapshot, RefusesRestore, RefusesClone, RefusesDelete, RefusesCleanup}
+use Rattle.esr_core.specs.Refusing.{RefusesSnapshot, RefusesRestore, RefusesClone, RefusesDelete, RefusesCleanup}
 
 -- no ticket of a restore is out
 abbrev pub NoReaderOut : Start → List Moment → Type 0

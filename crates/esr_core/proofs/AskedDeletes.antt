@@ -3,17 +3,16 @@ use Rattle.std.proofs.Common.{◌≡◌, ℕ, true, false, not, ◌==◌, List, 
 use Rattle.std.specs.Prelude.{option_map}
 use Rattle.std.specs.FinMap as fin
 use Rattle.std.proofs.lemmas.Bool.{eq-eqb, and_from, cond-true, cond-false, cases_Bool, and_right}
-use Rattle.std.proofs.lemmas.Option.{none-some}
-use Rattle.esr_model.specs.Values.{Bytes, Has, RootSnap, Formats}
+use Rattle.esr_model.specs.Values.{Bytes, Has, Formats}
 use Rattle.esr_model.specs.Shelf.{names_uuid}
-use Rattle.esr_core.specs.World.{World, Op, Work, Shard, Finalize, Deleting, Drop, Ticket}
+use Rattle.esr_core.specs.World.{World, Op, Work, Finalize, Deleting, Ticket}
 use Rattle.esr_core.specs.Ready.{IsMaster}
-use Rattle.esr_core.specs.Deletes.{open_uuid, uuid_among, uuid_named, with_uuid, with_named, named_uuids, has_op, waiting_delete, running_delete, is_swap, swaps_op, is_swapped, is_unaborted, aborts_op, aborted_ops, delete_opened, delete_merged, delete_by, asked_delete}
+use Rattle.esr_core.specs.Deletes.{uuid_named, with_uuid, with_named, named_uuids, has_op, waiting_delete, running_delete, is_swap, swaps_op, is_swapped, is_unaborted, aborts_op, aborted_ops, delete_opened, delete_merged, delete_by, asked_delete}
 use Rattle.esr_core.specs.Turns.{IsKnown, SparesRestores, AskDelete, MergeDelete, Turn, Stays, AsksDelete, Merges, commands_of}
-use Rattle.esr_core.specs.Allowed.{IsNameOf, IsUnused, MayDelete}
+use Rattle.esr_core.specs.Allowed.{IsNameOf, MayDelete}
 use Rattle.esr_model.specs.Lists.{Has-left, Has-right}
 use Rattle.esr_core.specs.Laws.Maps.{got_entry}
-use Rattle.esr_core.specs.Laws.Tests.{same_one, same_true, clash, any_of}
+use Rattle.esr_core.specs.Laws.Tests.{clash, any_of}
 use Rattle.esr_core.specs.Laws.DeleteRoots.{has_names, names_has}
 use Rattle.esr_core.specs.Laws.DeleteAsks.{named_is, more_named, Waits, waits, now_at as law-now_at, get_at as law-get_at, spared as law-spared, aborts}
 
@@ -22,30 +21,6 @@ use Rattle.esr_core.specs.Laws.DeleteAsks.{named_is, more_named, Waits, waits, n
 pub name_known : (w : World) (name : Bytes) (u : ℕ) → IsNameOf w name u → IsKnown w u
 name_known w name u (inl s) = inl (s.0, s.1, s.3)
 name_known w name u (inr o) = inr (o.0, o.1, o.2, o.4)
-
-open_unnamed : (ops : List (ℕ × Op)) (name : Bytes) → open_uuid ops name ≡ None → (o : ℕ) (op : Op) → Has ops (o, op) → op.name ≡ name → ⊥
-open_unnamed [] name e o op m same = m
-open_unnamed (x ∷ ops) name e o op m same = elim (same_one x.1.name name) [
-  | inl h ↦ none-some x.1.uuid (sym e ∙ cond-true _ _ _ h.0)
-  | inr h ↦ elim m [
-    | inl is ↦ clash _ (same_true x.1.name name (ap (λ (p : ℕ × Op). p.1.name) is ∙ same)) h
-    | inr rest ↦ open_unnamed ops name (sym (cond-false _ _ _ h) ∙ e) o op rest same
-  ]
-]
-
-among_unnamed : (snaps : List RootSnap) (ops : List (ℕ × Op)) (name : Bytes) → uuid_among snaps ops name ≡ None → ((s : RootSnap) → Has snaps s → s.name ≡ name → ⊥) × (open_uuid ops name ≡ None)
-among_unnamed [] ops name e = ((λ s m same. m), e)
-among_unnamed (x ∷ snaps) ops name e = elim (same_one x.name name) [
-  | inl h ↦ absurd (none-some x.uuid (sym e ∙ cond-true _ _ _ h.0))
-  | inr h ↦
-      let rest = among_unnamed snaps ops name (sym (cond-false _ _ _ h) ∙ e) in
-      ((λ s m same. elim m [ inl is ↦ clash _ (same_true x.name name (ap (λ (p : RootSnap). p.name) is ∙ same)) h | inr later ↦ rest.0 s later same ]), rest.1)
-]
-
--- a name that names none is unused
-pub unnamed_is : (w : World) (name : Bytes) → uuid_named w name ≡ None → IsUnused w name
-unnamed_is w name e u (inl s) = (among_unnamed w.root.snapshots (fin.entries w.ops) name e).0 s.0 s.1 s.2
-unnamed_is w name e u (inr o) = open_unnamed (fin.entries w.ops) name (among_unnamed w.root.snapshots (fin.entries w.ops) name e).1 o.0 o.1 (got_entry w.ops o.0 o.1 o.2) o.3
 
 -- ---- the uuids of its names
 
@@ -76,10 +51,9 @@ has_named w (x ∷ names) uuids name u (inr m) e = has_named w names (with_uuid 
 -- ---- the ops that it aborts
 
 master_swap : (work : Work) → IsMaster work → is_swap work ≡ true
-master_swap (Shard index number) m = absurd m
 master_swap (Finalize info results made) m = refl
 master_swap (Deleting uuids plan) m = refl
-master_swap Drop m = absurd m
+master_swap work m = absurd m
 
 module _ (w : World) (uuids : List ℕ) (by : ℕ) where
   abbrev now_at : ℕ → Op → Op

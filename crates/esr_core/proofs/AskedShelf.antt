@@ -1,5 +1,5 @@
 -- What a restore gives is on the shelf as it was when it was asked.
-use Rattle.std.proofs.Common.{◌≡◌, ℕ, suc, List, [], ◌∷◌, ◌++◌, false, true≢false, Option, Some, None, map, refl, sym, ap, ◌∙◌, subst, inl, inr, arith, nat_cmp}
+use Rattle.std.proofs.Common.{◌≡◌, ℕ, suc, List, [], ◌∷◌, ◌++◌, false, Option, Some, None, map, refl, ap, ◌∙◌, subst, inl, inr, arith, nat_cmp, sym}
 use Rattle.std.specs.FinMap.{FinMap}
 use Rattle.std.specs.FinMap as fin
 use Rattle.std.proofs.lemmas.Option.{same_Some, none-some}
@@ -14,7 +14,7 @@ use Rattle.esr_core.specs.Ids.{Law}
 use Rattle.esr_core.specs.Entry.{Restore, Step, AskStep, Refusal, Reply, Refused, AcceptedRestore, Moment}
 use Rattle.esr_core.specs.After.{answered, after}
 use Rattle.esr_core.specs.Allowed as allowed
-use Rattle.esr_core.specs.Allowed.{Told, RestoredBy, RestoreAllows, OpeningRestore, AcceptsRestore, IsInInfo, Allows, Allowed}
+use Rattle.esr_core.specs.Allowed.{Told, RestoredBy, AcceptsRestore, IsInInfo, Allows, Allowed}
 use Rattle.esr_core.specs.History.{world_from, IsLegal, AreTold, commands_at, committed}
 use Rattle.esr_core.specs.ReadLaw.{ReadLaw, ReadsShelved, IsOnShelf}
 use Rattle.esr_core.specs.Restored.{IsServed, IsShelvedAs}
@@ -37,9 +37,8 @@ module _ (f : Formats) (w : World) (shelf : List Shelved) (l : Law f w shelf) (r
   contents_of : (index number : ℕ) (es : List FileEntry) (files : List (Bytes × Bytes)) → AllPairs (λ (e : FileEntry) (file : Bytes × Bytes). (e.physical ≡ file.0) × FileStands f (HeldIn f w) index number e file.1) es files
       → AllPairs (FileStands f (HeldIn f w) index number) es (map (λ (file : Bytes × Bytes). file.1) files)
   contents_of index number [] [] h = tt
-  contents_of index number [] (y ∷ files) h = h
-  contents_of index number (e ∷ es) [] h = h
   contents_of index number (e ∷ es) (y ∷ files) h = (h.0.1, contents_of index number es files h.1)
+  contents_of index number es files h = h
 
   pub served : IsServed f w q
   served =
@@ -64,22 +63,9 @@ pub record AcceptedAs (f : Formats) (w : World) (m : Moment) (name place : Bytes
   pub alive : w.deposed ≡ false
   pub accepts : AcceptsRestore f w name o uuid indices m.image
 
-accepted_by : (f : Formats) (w : World) (name : Bytes) (reply : Reply) (image : Option Image) (o uuid : ℕ) (indices : List IndexRef) → RestoreAllows f w name reply image → reply ≡ AcceptedRestore o uuid indices
-    → AcceptsRestore f w name o uuid indices image
-accepted_by f w name reply image o uuid indices (OpeningRestore p u refs im acc) e = same_reply e
-  where
-    same_reply : AcceptedRestore p u refs ≡ AcceptedRestore o uuid indices → AcceptsRestore f w name o uuid indices im
-    same_reply is =
-        let os : p ≡ o = cc in let us : u ≡ uuid = cc in let rs : refs ≡ indices = cc in
-        subst (λ x. AcceptsRestore f w name x uuid indices im) os (subst (λ x. AcceptsRestore f w name p x indices im) us (subst (λ x. AcceptsRestore f w name p u x im) rs acc))
-accepted_by f w name reply image o uuid indices (allowed.NotListed im none) e = absurd (cc)
-accepted_by f w name reply image o uuid indices (allowed.NamedByDelete u d im listed named) e = absurd (cc)
-accepted_by f w name reply image o uuid indices (allowed.FullOfRestores u im listed spared full) e = absurd (cc)
-
-allows_by : (f : Formats) (size : ℕ) (w : World) (who : ℕ) (name place : Bytes) (reply : Reply) (image : Option Image) → Allows f size w who (AskStep (Restore name place)) reply image → (o uuid : ℕ) (indices : List IndexRef)
-    → reply ≡ AcceptedRestore o uuid indices → AcceptsRestore f w name o uuid indices image
-allows_by f size w who name place reply image (allowed.AskingRestore n p rep im h same) o uuid indices e = accepted_by f w n rep im o uuid indices h e
-allows_by f size w who name place reply image (allowed.Cleaning command d x im recorded untaken there clean same) o uuid indices e = absurd (true≢false (sym recorded))
+allows_by : (f : Formats) (size : ℕ) (w : World) (who : ℕ) (name place : Bytes) (o uuid : ℕ) (indices : List IndexRef) (image : Option Image)
+    → Allows f size w who (AskStep (Restore name place)) (AcceptedRestore o uuid indices) image → AcceptsRestore f w name o uuid indices image
+allows_by f size w who name place o uuid indices image (allowed.OpeningRestore n at p u refs im acc same) = acc
 
 refused_accepted : (refusal : Refusal) (o uuid : ℕ) (indices : List IndexRef) → Refused refusal ≡ AcceptedRestore o uuid indices → ⊥
 refused_accepted refusal o uuid indices e = cc
@@ -87,7 +73,9 @@ refused_accepted refusal o uuid indices e = cc
 pub accepted_as : (f : Formats) (size : ℕ) (w : World) (m : Moment) (name place : Bytes) (o uuid : ℕ) (indices : List IndexRef) → Allowed f size w m → m.entry.step ≡ AskStep (Restore name place)
     → m.entry.reply ≡ AcceptedRestore o uuid indices → AcceptedAs f w m name place o uuid indices
 accepted_as f size w m name place o uuid indices a step reply = elim a.answered [
-  | inl alive ↦ record { alive = alive.0; accepts = allows_by f size w m.entry.who name place m.entry.reply m.image (subst (λ s. Allows f size w m.entry.who s m.entry.reply m.image) step alive.1) o uuid indices reply }
+  | inl alive ↦
+      let allows = subst (λ s. Allows f size w m.entry.who s m.entry.reply m.image) step alive.1 in
+      record { alive = alive.0; accepts = allows_by f size w m.entry.who name place o uuid indices m.image (subst (λ r. Allows f size w m.entry.who (AskStep (Restore name place)) r m.image) reply allows) }
   | inr dead ↦ absurd (refused_accepted dead.refusal o uuid indices (sym dead.refused ∙ reply))
 ]
 

@@ -3,7 +3,7 @@ use Rattle.std.proofs.Common.{◌≡◌, ◌⊎◌, ℕ, ◌+◌, ◌<◌, ◌�
 use Rattle.std.specs.FinMap as fin
 use Rattle.std.proofs.lemmas.Option.{same_Some}
 use Rattle.esr_core.specs.Laws.NumberMaps.{was_in, split_at}
-use Rattle.esr_model.specs.Names.{BlobName, Root, Latest, Snap, Meta, IndexMeta, ShardSnap, ShardIndex, File, Part, TestMaster, TestNode}
+use Rattle.esr_model.specs.Names.{BlobName, Snap, Meta, IndexMeta, ShardSnap, ShardIndex, File, Part, TestMaster, TestNode}
 use Rattle.esr_model.specs.Values.{Bytes, IndexRef, RootIndex, RootData, ShardResult, Formats}
 use Rattle.esr_model.specs.Shelf.{Shelved}
 use Rattle.esr_model.specs.Image.{Blobs, Has, Present}
@@ -19,8 +19,6 @@ use Rattle.esr_core.specs.Laws.Maps.{Ops, Tickets}
 use Rattle.esr_core.specs.Laws.IdBounds.{up, root_up}
 
 pub below_up : (name : BlobName) (c d : ℕ) → c ≤ d → IdsBelow name c → IdsBelow name d
-below_up (Root n) c d le h = tt
-below_up Latest c d le h = tt
 below_up (Snap u) c d le h = omega (arith, le, h)
 below_up (Meta u) c d le h = omega (arith, le, h)
 below_up (IndexMeta i u) c d le h = (up i c d le h.0, up u c d le h.1)
@@ -30,6 +28,7 @@ below_up (File i s x) c d le h = (up i c d le h.0, up x c d le h.1)
 below_up (Part i s x p) c d le h = (up i c d le h.0, up x c d le h.1)
 below_up (TestMaster v) c d le h = up v c d le h
 below_up (TestNode v n) c d le h = up v c d le h
+below_up name c d le h = tt
 
 pub ticket_up : (f : Formats) (t : Ticket) (c d : ℕ) → c ≤ d → TicketIds f c t → TicketIds f d t
 ticket_up f t c d le h =
@@ -137,17 +136,11 @@ commits_below f c t h name bytes (inr (none, may, shard)) = go name may
     drew id d = let a : id < t.first + t.drawn = d.below in let b : t.first + t.drawn ≤ c = h.drawn in omega arith
 
     go : (name : BlobName) → ShardCommits t name → IdsBelow name c
-    go (Root n) m = absurd m
-    go Latest m = absurd m
-    go (Snap u) m = absurd m
-    go (Meta u) m = absurd m
-    go (IndexMeta i u) m = absurd m
     go (ShardSnap i s u) m = (h.index i s m.0, subst (λ x. x < c) (sym m.1) (h.uuid shard))
     go (ShardIndex i s g) m = (h.index i s m.0, drew g m.1)
     go (File i s x) m = (h.index i s m.0, drew x m.1)
     go (Part i s x p) m = (h.index i s m.0, drew x m.1)
-    go (TestMaster v) m = absurd m
-    go (TestNode v n) m = absurd m
+    go name m = absurd m
 
 -- the given conditions follow
 module _ (f : Formats) (w : World) (shelf : List Shelved) (l : Law f w shelf) where

@@ -19,10 +19,9 @@ use Rattle.esr_core.proofs.Staging.{IsShelved, listed_shelved}
 
 entry_in : (files : List FileEntry) (ids : List ℕ) (es : List FileEntry) → AllPairs (λ (id : ℕ) (e : FileEntry). (e.name ≡ id) × Has files e) ids es → (e : FileEntry) → Has es e → Has files e
 entry_in files [] [] h e m = absurd m
-entry_in files [] (x ∷ es) h e m = absurd h
-entry_in files (id ∷ ids) [] h e m = absurd h
 entry_in files (id ∷ ids) (x ∷ es) h e (inl same) = subst (Has files) same h.0.1
 entry_in files (id ∷ ids) (x ∷ es) h e (inr m) = entry_in files ids es h.1 e m
+entry_in files ids es h e m = absurd h
 
 module _ (f : Formats) (w : World) (t : Ticket) (index shard source : ℕ) (s : SourceStands f w t index shard source) where
   -- the base has each of its files

@@ -125,13 +125,12 @@ module _ (listed uuids unlisted : List ℕ) (was : ShardFiles) (known : (l : Sna
   entries_left : (l : SnapList) → Has was.snapshots l → names_uuid left l.uuid ≡ true → (ids : List ℕ) (fs : List FileEntry) → ((id : ℕ) → Has ids id → Has l.files id)
       → AllPairs (λ id e. (e.name ≡ id) × Has was.files e) ids fs → AllPairs (λ id e. (e.name ≡ id) × Has (surviving left was).files e) ids fs
   entries_left l m mine [] [] within h = tt
-  entries_left l m mine [] (e ∷ fs) within h = h
-  entries_left l m mine (id ∷ ids) [] within h = h
   entries_left l m mine (id ∷ ids) (e ∷ fs) within h =
       let there : Has (listed_lists left was.snapshots) l = filter-Has (λ (x : SnapList). names_uuid left x.uuid) was.snapshots l m mine in
       let file : Has l.files e.name = subst (Has l.files) (sym h.0.0) (within id (inl refl)) in
       let test : lists_file (listed_lists left was.snapshots) e ≡ true = any_of (λ (x : SnapList). names_uuid x.files e.name) (listed_lists left was.snapshots) l there (has_names l.files e.name file) in
       ((h.0.0, filter-Has (lists_file (listed_lists left was.snapshots)) was.files e h.0.1 test), entries_left l m mine ids fs (λ x n. within x (inr n)) h.1)
+  entries_left l m mine ids fs within h = h
 
   pub prunes_left : Prunes was (surviving left was) (uuids ++ unlisted)
   prunes_left = record {

@@ -9,7 +9,7 @@ use Rattle.esr_model.specs.Shelf.{Shelved, Command}
 use Rattle.esr_model.specs.Image.{Blobs, IsStored}
 use Rattle.esr_model.specs.Delete.{doomed_names}
 use Rattle.esr_model.specs.Cleanup.{cleaned_names}
-use Rattle.esr_core.specs.World.{World, Shard, Finalize, Deleting, Drop, Ticket, Swap, HeldIn, Safely}
+use Rattle.esr_core.specs.World.{World, Finalize, Deleting, Drop, Ticket, Swap, HeldIn, Safely}
 use Rattle.esr_core.specs.Ready.{IsShard, IsMaster}
 use Rattle.esr_core.specs.Steps.{Removes, MaySettle, FetchFound, reading, listing, shard_ticket, final_ticket, plain_ticket}
 use Rattle.esr_core.specs.Pruning.{IsPlanned, doomed_as, doomed_by, dooms, PruneLaw, PruneLaws}
@@ -82,14 +82,8 @@ module _ (f : Formats) (blobs : Blobs) (doomed : List BlobName) (safe term : ℕ
       })
       (λ uuids s done is. absurd (true≢false (sym done ∙ unsettled)))
 
-shard_other : (i n : ℕ) (uuids : List ℕ) (plan : Option Swap) → Shard i n ≡ Deleting uuids plan → ⊥
-shard_other i n uuids plan e = cc
-
 final_other : (info : SnapInfo) (results : List ShardResult) (made : Command) (uuids : List ℕ) (plan : Option Swap) → Finalize info results made ≡ Deleting uuids plan → ⊥
 final_other info results made uuids plan e = cc
-
-drop_other : (uuids : List ℕ) (plan : Option Swap) → Drop ≡ Deleting uuids plan → ⊥
-drop_other uuids plan e = cc
 
 plan_same : (us vs : List ℕ) (p q : Option Swap) → Deleting us p ≡ Deleting vs q → (us ≡ vs) × (p ≡ q)
 plan_same us vs p q e = (cc, cc)
@@ -218,10 +212,10 @@ turn_pruned f w new shelf l (SettlesDelete m k n t s d) = subst (In f) (sym d.ne
     (settles f w shelf l k n t s d.may d.present (d.names ++ w.doomed) (λ name h. Has-right d.names w.doomed name h) (λ uuids x work name h. Has-left d.names w.doomed name (d.gives name h)))
 turn_pruned f w new shelf l (Elects m d) = subst (In f) (sym d.new_is) (elected f w shelf l)
 turn_pruned f w new shelf l (TakesShard m o op s base d) = subst (In f) (sym d.new_is)
-    (new_one f w.blobs w.doomed w.safe w.term w.tickets l.pruned w.next_ticket (shard_ticket w o op s base) refl (λ uuids plan e. absurd (shard_other s.ref.id s.number uuids plan e)))
+    (new_one f w.blobs w.doomed w.safe w.term w.tickets l.pruned w.next_ticket (shard_ticket w o op s base) refl (λ uuids plan e. absurd cc))
 turn_pruned f w new shelf l (TakesFinal m o op results d) = subst (In f) (sym d.new_is)
     (new_one f w.blobs w.doomed w.safe w.term w.tickets l.pruned w.next_ticket (final_ticket f w o op results) refl (λ uuids plan e. absurd (final_other _ results _ uuids plan e)))
-turn_pruned f w new shelf l (TakesDrop m o d) = subst (In f) (sym d.new_is) (new_one f w.blobs w.doomed w.safe w.term w.tickets l.pruned w.next_ticket (plain_ticket w o Drop) refl (λ uuids plan e. absurd (drop_other uuids plan e)))
+turn_pruned f w new shelf l (TakesDrop m o d) = subst (In f) (sym d.new_is) (new_one f w.blobs w.doomed w.safe w.term w.tickets l.pruned w.next_ticket (plain_ticket w o Drop) refl (λ uuids plan e. absurd cc))
 turn_pruned f w new shelf l (TakesDelete m n x d) = subst (In f) (sym d.new_is)
     (new_one f w.blobs w.doomed w.safe w.term w.tickets l.pruned w.next_ticket (plain_ticket w n (Deleting x.uuids None)) refl (λ uuids plan e. (refl, refl, sym (plan_same x.uuids uuids None plan e).1)))
 turn_pruned f w new shelf l (TakesCleanup m n x d) = subst (In f) (sym d.new_is)

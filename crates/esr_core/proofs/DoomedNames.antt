@@ -91,70 +91,51 @@ root_part e = cc
 
 module _ (f : Formats) (has : BlobName → Bytes → Type 0) (root : RootData) where
   no_root : (n : ℕ) (name : BlobName) → Reached f has root name → name ≡ Root n → ⊥
-  no_root n name (ReachSnap s there) e = cc
-  no_root n name (ReachMeta s there) e = cc
-  no_root n name (ReachIndexMeta x u there mine) e = cc
-  no_root n name (ReachIndex i k g gen) e = cc
-  no_root n name (ReachShardSnap i k g s held l gen reads listed there same) e = cc
   no_root n name (ReachPart i k g held x part gen reads listed m) e = file_or_part i k x part m (λ h. root_file (sym e ∙ h)) (λ p h. root_part (sym e ∙ h))
+  no_root n name other e = cc
 
   snap_is : {a b : ℕ} → Snap a ≡ Snap b → a ≡ b
   snap_is e = cc
 
   reached_snap : (u : ℕ) (name : BlobName) → Reached f has root name → name ≡ Snap u → (s : RootSnap) × Has root.snapshots s × (s.uuid ≡ u)
   reached_snap u name (ReachSnap s there) e = (s, there, snap_is e)
-  reached_snap u name (ReachMeta s there) e = absurd (cc)
-  reached_snap u name (ReachIndexMeta x v there mine) e = absurd (cc)
-  reached_snap u name (ReachIndex i k g gen) e = absurd (cc)
-  reached_snap u name (ReachShardSnap i k g s held l gen reads listed there same) e = absurd (cc)
   reached_snap u name (ReachPart i k g held x part gen reads listed m) e = absurd (file_or_part i k x part m (λ h. snap_file (sym e ∙ h)) (λ p h. snap_part (sym e ∙ h)))
+  reached_snap u name other e = absurd (cc)
 
   meta_is : {a b : ℕ} → Meta a ≡ Meta b → a ≡ b
   meta_is e = cc
 
   reached_meta : (u : ℕ) (name : BlobName) → Reached f has root name → name ≡ Meta u → (s : RootSnap) × Has root.snapshots s × (s.uuid ≡ u)
-  reached_meta u name (ReachSnap s there) e = absurd (cc)
   reached_meta u name (ReachMeta s there) e = (s, there, meta_is e)
-  reached_meta u name (ReachIndexMeta x v there mine) e = absurd (cc)
-  reached_meta u name (ReachIndex i k g gen) e = absurd (cc)
-  reached_meta u name (ReachShardSnap i k g s held l gen reads listed there same) e = absurd (cc)
   reached_meta u name (ReachPart i k g held x part gen reads listed m) e = absurd (file_or_part i k x part m (λ h. meta_file (sym e ∙ h)) (λ p h. meta_part (sym e ∙ h)))
+  reached_meta u name other e = absurd (cc)
 
   index_meta_is : {a b c d : ℕ} → IndexMeta a b ≡ IndexMeta c d → (a ≡ c) × (b ≡ d)
   index_meta_is e = (cc, cc)
 
   reached_index_meta : (i u : ℕ) (name : BlobName) → Reached f has root name → name ≡ IndexMeta i u → (x : RootIndex) × Has root.indices x × Has x.snapshots u
-  reached_index_meta i u name (ReachSnap s there) e = absurd (cc)
-  reached_index_meta i u name (ReachMeta s there) e = absurd (cc)
   reached_index_meta i u name (ReachIndexMeta x v there mine) e = (x, there, subst (Has x.snapshots) (index_meta_is e).1 mine)
-  reached_index_meta i u name (ReachIndex a k g gen) e = absurd (cc)
-  reached_index_meta i u name (ReachShardSnap a k g s held l gen reads listed there same) e = absurd (cc)
   reached_index_meta i u name (ReachPart a k g held x part gen reads listed m) e = absurd (file_or_part a k x part m (λ h. index_meta_file (sym e ∙ h)) (λ p h. index_meta_part (sym e ∙ h)))
+  reached_index_meta i u name other e = absurd (cc)
 
   index_is : {a b c i k g : ℕ} → ShardIndex a b c ≡ ShardIndex i k g → (a ≡ i) × (b ≡ k) × (c ≡ g)
   index_is e = (cc, cc, cc)
 
   reached_index : (i k g : ℕ) (name : BlobName) → Reached f has root name → name ≡ ShardIndex i k g → Generation root i k g
-  reached_index i k g name (ReachSnap s there) e = absurd (cc)
-  reached_index i k g name (ReachMeta s there) e = absurd (cc)
-  reached_index i k g name (ReachIndexMeta x v there mine) e = absurd (cc)
   reached_index i k g name (ReachIndex a b c gen) e = let same = index_is e in subst (λ (x : ℕ × ℕ × ℕ). Generation root x.0 x.1 x.2) (λ j. (same.0 j, same.1 j, same.2 j)) gen
-  reached_index i k g name (ReachShardSnap a b c s held l gen reads listed there same) e = absurd (cc)
   reached_index i k g name (ReachPart a b c held x part gen reads listed m) e = absurd (file_or_part a b x part m (λ h. index_file (sym e ∙ h)) (λ p h. index_part (sym e ∙ h)))
+  reached_index i k g name other e = absurd (cc)
 
   list_is : {a b c i k u : ℕ} → ShardSnap a b c ≡ ShardSnap i k u → (a ≡ i) × (b ≡ k) × (c ≡ u)
   list_is e = (cc, cc, cc)
 
   -- the snapshot of a shard: the root lists the snapshot, and gives the shard a generation
   reached_list : (i k u : ℕ) (name : BlobName) → Reached f has root name → name ≡ ShardSnap i k u → (s : RootSnap) × Has root.snapshots s × (s.uuid ≡ u) × (g : ℕ) × Generation root i k g
-  reached_list i k u name (ReachSnap s there) e = absurd (cc)
-  reached_list i k u name (ReachMeta s there) e = absurd (cc)
-  reached_list i k u name (ReachIndexMeta x v there mine) e = absurd (cc)
-  reached_list i k u name (ReachIndex a b c gen) e = absurd (cc)
   reached_list i k u name (ReachShardSnap a b c s held l gen reads listed there same) e =
       let is = list_is e in
       (s, there, is.2, c, subst (λ (x : ℕ × ℕ). Generation root x.0 x.1 c) (λ j. (is.0 j, is.1 j)) gen)
   reached_list i k u name (ReachPart a b c held x part gen reads listed m) e = absurd (file_or_part a b x part m (λ h. list_file (sym e ∙ h)) (λ p h. list_part (sym e ∙ h)))
+  reached_list i k u name other e = absurd (cc)
 
   -- a part of a file of this id in this shard: the index of the shard reads, and has such a file
   pub record ReachesFile (i k x : ℕ) : Type 0 where

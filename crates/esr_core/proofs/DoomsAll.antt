@@ -189,9 +189,8 @@ index_meta_doomed uuids (z ∷ xs) x u (inr m) mine e =
 
 list_test : (listed kept left : Bool) → listed ≡ true → (kept ≡ true → left ≡ false) → (listed && (if kept then (if left then false else true) else true)) ≡ true
 list_test true true true a h = absurd (clash true refl (h refl))
-list_test true true false a h = refl
-list_test true false left a h = refl
 list_test false kept left a h = absurd (clash false a refl)
+list_test listed kept left a h = refl
 
 list_doomed : (listed left : List ℕ) (p : PrunedShard) (lists : List SnapList) (l : SnapList) → Has lists l → names_uuid listed l.uuid ≡ true → (p.kept ≡ true → names_uuid left l.uuid ≡ false)
     → Has (doomed_lists listed left p lists) (ShardSnap p.index p.number l.uuid)

@@ -102,18 +102,16 @@ module _ (f : Formats) (w : World) (shelf : List Shelved) (l : Lawful f w shelf)
       same_left : (us vs : List ℕ) (ss : List RootSnap) (xs : List Shelved) → ((s : RootSnap) → Has ss s → names_uuid us s.uuid ≡ names_uuid vs s.uuid) → AllPairs (SnapStands f (HeldIn f w) w.root) ss xs
           → left_shelf us xs ≡ left_shelf vs xs
       same_left us vs [] [] same h = refl
-      same_left us vs [] (y ∷ ys) same h = absurd h
-      same_left us vs (s ∷ ss) [] same h = absurd h
       same_left us vs (s ∷ ss) (y ∷ ys) same h =
           let one : names_uuid us y.uuid ≡ names_uuid vs y.uuid = ap (names_uuid us) h.0.uuid_is ∙ same s (inl refl) ∙ sym (ap (names_uuid vs) h.0.uuid_is) in
           let rest : left_shelf us ys ≡ left_shelf vs ys = same_left us vs ss ys (λ z m. same z (inr m)) h.1 in
           λ j. if one j then rest j else y ∷ rest j
+      same_left us vs ss xs same h = absurd h
 
       all_left : (uuids : List ℕ) (ss : List RootSnap) (xs : List Shelved) → ((s : RootSnap) → Has ss s → names_uuid uuids s.uuid ≡ false) → AllPairs (SnapStands f (HeldIn f w) w.root) ss xs → left_shelf uuids xs ≡ xs
       all_left uuids [] [] none h = refl
-      all_left uuids [] (y ∷ ys) none h = absurd h
-      all_left uuids (s ∷ ss) [] none h = absurd h
       all_left uuids (s ∷ ss) (y ∷ ys) none h = cond-false _ _ _ (ap (names_uuid uuids) h.0.uuid_is ∙ none s (inl refl)) ∙ ap (λ zs. y ∷ zs) (all_left uuids ss ys (λ z m. none z (inr m)) h.1)
+      all_left uuids ss xs none h = absurd h
 
   counts : Counts (ledger_of w) v → d.t.term ≡ w.term
   counts (inl p) = p

@@ -7,14 +7,14 @@ use Rattle.std.proofs.lemmas.Option.{same_Some}
 use Rattle.esr_core.specs.Laws.NumberMaps.{was_in, same_in, other_in, split_at}
 use Rattle.esr_model.specs.Values.{IndexRef, ShardResult, Formats}
 use Rattle.esr_model.specs.Image.{Has}
-use Rattle.esr_core.specs.World.{World, Op, ShardWork, ShardState, Pending, Out, Done, GivenUp, Shard, Ticket, AllDone, HeldIn, marked}
+use Rattle.esr_core.specs.World.{World, Op, ShardWork, ShardState, Out, Done, GivenUp, Shard, Ticket, AllDone, HeldIn, marked}
 use Rattle.esr_core.specs.Ready.{Idle, Waits, ReadyShard}
 use Rattle.esr_core.specs.Generations.{Carried}
-use Rattle.esr_core.specs.Steps.{given, completing, all_done, is_done}
+use Rattle.esr_core.specs.Steps.{completing, all_done, is_done}
 use Rattle.esr_core.specs.Turns.{fails}
 use Rattle.esr_core.specs.Queue.{QueueIn}
 use Rattle.esr_model.specs.Lists.{Has-mapped, Has-left, Has-right, Has-append}
-use Rattle.esr_core.specs.Laws.ShardStates.{marked_is, given_is, pending_out, out_done, done_pending, up_out, Grows, grows_same, failed_is}
+use Rattle.esr_core.specs.Laws.ShardStates.{marked_is, pending_out, out_done, done_pending, up_out, Grows, grows_same, failed_is}
 use Rattle.esr_core.specs.Laws.Maps.{Ops}
 use Rattle.esr_core.proofs.Queues.{Evolves}
 
@@ -99,9 +99,7 @@ completing_was completed o shards x h = go (all_done shards) refl h
 
 is_done_of : (st : ShardState) → is_done st ≡ true → (r : ShardResult) × (st ≡ Done r)
 is_done_of (Done r) e = (r, refl)
-is_done_of Pending e = absurd (true≢false (sym e))
-is_done_of (Out k) e = absurd (true≢false (sym e))
-is_done_of GivenUp e = absurd (true≢false (sym e))
+is_done_of st e = absurd (true≢false (sym e))
 
 pub results_of : (shards : List ShardWork) → all_done shards ≡ true → (results : List ShardResult) × AllDone shards results
 results_of [] e = ([], tt)
@@ -114,9 +112,8 @@ results_of (s ∷ ss) e =
 -- what is done stays, under a map that leaves it
 pub all_done_on : (g : ShardWork → ShardWork) → ((s : ShardWork) (r : ShardResult) → s.state ≡ Done r → g s ≡ s) → (shards : List ShardWork) (results : List ShardResult) → AllDone shards results → AllDone (map g shards) results
 all_done_on g same [] [] h = tt
-all_done_on g same [] (r ∷ rs) h = absurd h
-all_done_on g same (s ∷ ss) [] h = absurd h
 all_done_on g same (s ∷ ss) (r ∷ rs) h = (ap (λ (x : ShardWork). x.state) (same s r h.0) ∙ h.0, all_done_on g same ss rs h.1)
+all_done_on g same shards results h = absurd h
 
 pub failed_leaves : (k : ℕ) (s : ShardWork) (r : ShardResult) → s.state ≡ Done r → fails k s ≡ s
 failed_leaves k s r e = elim (failed_is k s) [
@@ -133,9 +130,8 @@ marked_leaves k q s r e = elim (marked_is k (Done q) s) [
 pub all_done_back : (g : ShardWork → ShardWork) → ((s : ShardWork) (r : ShardResult) → (g s).state ≡ Done r → g s ≡ s) → (shards : List ShardWork) (results : List ShardResult) → AllDone (map g shards) results
     → AllDone shards results
 all_done_back g same [] [] h = tt
-all_done_back g same [] (r ∷ rs) h = absurd h
-all_done_back g same (s ∷ ss) [] h = absurd h
 all_done_back g same (s ∷ ss) (r ∷ rs) h = (sym (ap (λ (x : ShardWork). x.state) (same s r h.0)) ∙ h.0, all_done_back g same ss rs h.1)
+all_done_back g same shards results h = absurd h
 
 -- one op of a list goes on
 module _ (ops : Ops) (o : ℕ) (old op : Op) (there : fin.get ops o ≡ Some old) (ev : Evolves old op) where
@@ -178,7 +174,3 @@ free_of f w o op s c q r k t there out is =
       | inr (inl lt) ↦ r.first t.op l.op l.s lt l.op_there l.s_there l.index_is l.shard_is (subst Waits (sym l.state) tt)
       | inr (inr gt) ↦ q.queued o t.op op l.op s l.s gt r.op_there l.op_there r.s_there l.s_there (sym l.index_is) (sym l.shard_is) r.pending k l.state
     ]
-
--- a shard that is taken
-pub given_grows : (k i n : ℕ) (failed : Bool) (s : ShardWork) → Grows failed s (given k i n s) ⊎ ((s.ref.id ≡ i) × (s.number ≡ n) × (given k i n s ≡ record s { state = Out k }))
-given_grows k i n failed s = elim (given_is k i n s) [ inl h ↦ inr h | inr h ↦ inl (grows_same failed s (given k i n s) h.1) ]

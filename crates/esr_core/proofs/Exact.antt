@@ -14,7 +14,7 @@ use Rattle.esr_model.specs.Shelf.{Shelved, Command}
 use Rattle.esr_model.specs.Cleanup.{BlobSize, IsAfter, last_text, is_short, IsListed, IsPageOf, reaches}
 use Rattle.esr_model.specs.Image.{Blobs, Image, At, Present, Reads, Generation, RootIs}
 use Rattle.esr_model.specs.Kept.{Kept}
-use Rattle.esr_model.specs.Reach.{Reached, ReachSnap, ReachMeta, ReachIndexMeta, ReachIndex, ReachShardSnap, ReachPart}
+use Rattle.esr_model.specs.Reach.{Reached, ReachPart}
 use Rattle.esr_core.specs.World.{World, Deletion, Deleting, Drop, Finalize, Ticket, Swap, HeldIn, record_of, no_record, no_root, Opened, OpenedEmpty, OpenedRecord}
 use Rattle.esr_core.specs.Ready.{IsMaster, IsShard}
 use Rattle.esr_core.specs.Steps.{IsOut, listing, settled, with_ticket, MayCommit, MaySettle, Removes}
@@ -25,7 +25,7 @@ use Rattle.esr_core.specs.Past.{is_counted, with_entry, begins_anew, entries_by,
 use Rattle.esr_core.specs.Tracked.{CleanTracked, Tracked}
 use Rattle.esr_core.specs.ReadTracked.{ReadTracked}
 use Rattle.esr_core.specs.Changes.{SameUnit, BlobsChange, NoBlobChange, NewBlob, NewLatest, Removal, Maker, ClientStep, ReaderStep, UnitStep, IsUnits}
-use Rattle.esr_core.specs.Entry.{Prune, SettlePruned, RemoveDoomed, DeleteFails, Step, AskStep, TakeStep, DrawStep, BeginStep, CommitStep, LatestStep, FetchStep, ListStep, RaiseStep, SettleStep, DoneStep, FailedStep, FinishStep, DroppedStep, ElectStep, LookStep, ReadStep, PruneStep, DepotFault, Refusal, Reply, WasListed, WasRemoved, HasEnded, Refused, Entry, Moment}
+use Rattle.esr_core.specs.Entry.{Prune, SettlePruned, RemoveDoomed, DeleteFails, Step, DrawStep, BeginStep, CommitStep, LatestStep, FetchStep, ListStep, RaiseStep, SettleStep, DoneStep, FailedStep, FinishStep, DroppedStep, ElectStep, PruneStep, DepotFault, Refusal, Reply, WasListed, WasRemoved, HasEnded, Refused, Entry, Moment}
 use Rattle.esr_core.specs.After.{with_given, committing, fetching, told_blob, delete_settled, delete_failed, delete_failed_by, is_stale, has_text, is_latest, tried, done_step, answered, after, dropped_of, raised, blobs_in}
 use Rattle.esr_core.specs.Allowed as allowed
 use Rattle.esr_core.specs.Allowed.{Told, SameBlobs, Adds, IsUnlisted, IsStale, ListsPage, SettlesDeletion, PruneAllows, Allows, IsBlocked, Allowed, InReach}
@@ -302,11 +302,6 @@ module _ (f : Formats) (size : ℕ) (w : World) (i : Image) where
               elim h.2 [ inl over ↦ OnOver h.0 h.1 over | inr none ↦ OnPlain refl (unchanged (fin.get w.deletes e.t.op) none.0) (told_at im told (λ blobs. blobs ≡ w.blobs) same) ]
 
   own_step : (who : ℕ) (e : Cleans who) (step : Step) (reply : Reply) (image : Option Image) → image ≡ Some i → IsUnits step → Allows f size w who step reply image → Own f w who e.t i step reply (answered f w who step reply image)
-  own_step who e (AskStep command) reply image told unit a = absurd unit
-  own_step who e TakeStep reply image told unit a = absurd unit
-  own_step who e ElectStep reply image told unit a = absurd unit
-  own_step who e LookStep reply image told unit a = absurd unit
-  own_step who e (ReadStep read) reply image told unit a = absurd unit
   own_step who e (PruneStep prune) reply image told unit (allowed.Pruning k p rep im h) = deleting_step who e p rep im told h
   own_step who e (DrawStep n) reply image told unit (allowed.Drawing k m first im d same) = absurd (no_shard who e (subst (λ (x : Ticket). IsShard x.work) (same_out who e d.may.t d.may.out) d.may.shard))
   own_step who e (DrawStep n) reply image told unit (allowed.DrawSpent k m im d spent same) = OnPlain refl (kept who e) (told_at im told (λ blobs. blobs ≡ w.blobs) same)
@@ -388,6 +383,7 @@ module _ (f : Formats) (size : ℕ) (w : World) (i : Image) where
       dropped (Some u) is = OnOver (record u { out = false }) (same_in w.tickets who (record u { out = false })) refl
   own_step who e DroppedStep reply image told unit (allowed.DropStale k im may apart same) = OnPlain refl (kept who e) (told_at im told (λ blobs. blobs ≡ w.blobs) same)
   own_step who e DroppedStep reply image told unit (allowed.DropFails k im d same) = OnDepose refl
+  own_step who e step reply image told unit a = absurd unit
 
 -- ---- what was listed
 
@@ -397,9 +393,8 @@ IsCovered f t text = IsListed t.listed text
     ⊎ (((t.whole ≡ false) × IsAfter (last_text t.listed) text) ⊎ (((text ≡ f.names.text Latest) × ReadsBack f.names Latest) ⊎ ((n : ℕ) × (t.raised ≡ Some n) × (text ≡ f.names.text (Root n)) × ReadsBack f.names (Root n))))
 
 last_append : (xs : List BlobSize) (b : BlobSize) (rest : List BlobSize) → last_text (xs ++ b ∷ rest) ≡ last_text (b ∷ rest)
-last_append [] b rest = refl
-last_append (x ∷ []) b rest = refl
 last_append (x ∷ y ∷ xs) b rest = last_append (y ∷ xs) b rest
+last_append xs b rest = refl
 
 -- a page that doesn't end the listing has a last name
 last_page : (xs page : List BlobSize) → is_short page ≡ false → last_text (xs ++ page) ≡ last_text page
@@ -959,11 +954,6 @@ module _ (f : Formats) (size : ℕ) (w : World) where
       root_number a b e = cc
 
       no_root : (has : BlobName → Bytes → Type 0) (root : RootData) (n : ℕ) (name : BlobName) → Reached f has root name → name ≡ Root n → ⊥
-      no_root has root n name (ReachSnap x m) e = cc
-      no_root has root n name (ReachMeta x m) e = cc
-      no_root has root n name (ReachIndexMeta x u m h) e = cc
-      no_root has root n name (ReachIndex i j g gen) e = cc
-      no_root has root n name (ReachShardSnap i j g x h y gen reads m p q) e = cc
       no_root has root n name (ReachPart i j g h x part gen reads m p) e = elim (in_parts i j x part p) [ inl is ↦ no_file i j x.name n (sym is ∙ e) | inr is ↦ no_part i j x.name is.0 n (sym is.1 ∙ e) ]
         where
           no_file : (i j x n : ℕ) → File i j x ≡ Root n → ⊥
@@ -971,6 +961,7 @@ module _ (f : Formats) (size : ℕ) (w : World) where
 
           no_part : (i j x p n : ℕ) → Part i j x p ≡ Root n → ⊥
           no_part i j x p n e = cc
+      no_root has root n name other e = cc
 
   rest_step : (m : Moment) → Step1 f size w m → (ChangesBlobs m.entry.step → ⊥) → HoldsReachAlone f w × ListsListedAlone f w → HoldsReachAlone f (after f w m) × ListsListedAlone f (after f w m)
   rest_step m s none (alone, lists) = (holds, lists_on f w (after f w m) same.1 blobs lists)
@@ -1041,9 +1032,7 @@ pub reach_alone : (f : Formats) (size : ℕ) (w : World) (shelf : List Shelved) 
 reach_alone f size w shelf before between rest first last k l tracked reads no_entry no_ticket legal told page drop no_test no_change =
     let all : Steps1 f size w (before ++ first ∷ (between ++ last ∷ rest)) = (record { shelf = shelf; law = l; tracked = tracked; reads = reads }, legal, told) in
     let a = steps_parts f size before (first ∷ (between ++ last ∷ rest)) w all in
-    let here : World = world_from f w before in
     let b = steps_parts f size (first ∷ between) (last ∷ rest) (world_from f w before) a.1 in
-    let there : World = world_from f (world_from f w before) (first ∷ between) in
     let one = first_step f size (world_from f (world_from f w before) (first ∷ between)) last rest b.1 in
     let opened = since f size before w a.0 k (record { next = tracked.first_ticket; first = λ t at. absurd (no_ticket t at); late = λ e h g. absurd (subst (λ (es : List Entry). Has (entries_by es k) e) no_entry h) }) in
     let g = page_by (world_from f w before) (first_step f size (world_from f w before) first (between ++ last ∷ rest) a.1) in

@@ -72,11 +72,10 @@ final_same a b rs qs m n e = cc
 -- the results of an op that is done are one list
 results_one : (shards : List ShardWork) (a b : List ShardResult) → AllDone shards a → AllDone shards b → a ≡ b
 results_one [] [] [] p q = refl
-results_one [] [] (y ∷ b) p q = absurd q
 results_one [] (x ∷ a) b p q = absurd p
 results_one (s ∷ ss) [] b p q = absurd p
-results_one (s ∷ ss) (x ∷ a) [] p q = absurd q
 results_one (s ∷ ss) (x ∷ a) (y ∷ b) p q = λ i. done_same x y (sym p.0 ∙ q.0) i ∷ results_one ss a b p.1 q.1 i
+results_one shards a b p q = absurd q
 
 -- an op with a shard that isn't done is not all done
 not_done : (shards : List ShardWork) (results : List ShardResult) (s : ShardWork) → Has shards s → ((r : ShardResult) → s.state ≡ Done r → ⊥) → AllDone shards results → ⊥
@@ -192,14 +191,13 @@ module _ (f : Formats) (w : World) (shelf : List Shelved) (l : Law f w shelf) (x
   may_commit name bytes valid absent k t there (inl (s, is, inl own)) = go t.work refl
     where
       go : (work : Work) → t.work ≡ work → Texted f (fin.insert w.blobs (f.names.text name) bytes) w.ops w.tickets
-      go (Shard i q) e = absurd (none-some s (ap (λ y. swap_of f y t.root) (sym e) ∙ is))
-      go Drop e = absurd (none-some s (ap (λ y. swap_of f y t.root) (sym e) ∙ is))
       go (Finalize info results made) e =
           let same = same_Some _ _ (ap (λ y. swap_of f y t.root) (sym e) ∙ is) in
           final_committed name bytes valid absent k t there info results made e (subst (λ (z : Swap). Has z.own (name, bytes)) (sym same) own)
       go (Deleting uuids plan) e =
           let planned : plan ≡ Some s = ap (λ y. swap_of f y t.root) (sym e) ∙ is in
           plain_committed name bytes valid absent (x.plans k t uuids s there (e ∙ ap (Deleting uuids) planned) name bytes own)
+      go work e = absurd (none-some s (ap (λ y. swap_of f y t.root) (sym e) ∙ is))
 
   -- a finalization that is taken
   pub final_taken : (o : ℕ) (op : Op) (results : List ShardResult) → fin.get w.ops o ≡ Some op → AllDone op.shards results → Texted f w.blobs w.ops (fin.insert w.tickets w.next_ticket (final_ticket f w o op results))

@@ -7,7 +7,7 @@ use Rattle.esr_core.specs.Laws.ShardStates.{out_done, out_same, op_now, ops_now,
 use Rattle.esr_model.specs.Values.{SnapInfo, ShardResult, Formats}
 use Rattle.esr_model.specs.Shelf.{Shelved, Command}
 use Rattle.esr_model.specs.Image.{Has}
-use Rattle.esr_core.specs.World.{World, Op, ShardWork, Out, Shard, Finalize, Deleting, Drop, Ticket, AllDone, ledger_of, HeldIn}
+use Rattle.esr_core.specs.World.{World, Op, ShardWork, Out, Shard, Finalize, Ticket, AllDone, ledger_of, HeldIn}
 use Rattle.esr_core.specs.Ready.{IsMaster, IsShard, SwapIsOut}
 use Rattle.esr_core.specs.Turns.{Failed, FailedDelete, fails}
 use Rattle.esr_core.specs.Swaps.{Rooted, TicketLaw}
@@ -88,8 +88,7 @@ module _ (f : Formats) (w : World) (shelf : List Shelved) (l : Lawful f w shelf)
       shard_of : (work : _) → IsShard work → (i : ℕ) × (n : ℕ) × (work ≡ Shard i n)
       shard_of (Shard i n) h = (i, n, refl)
       shard_of (Finalize info results made) h = absurd h
-      shard_of (Deleting uuids plan) h = absurd h
-      shard_of Drop h = absurd h
+      shard_of work h = absurd h
 
   carried : Carried f (HeldIn f w) w.safe w.term w.root ops (fin.insert w.tickets k v)
   carried =

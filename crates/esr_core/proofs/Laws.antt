@@ -70,7 +70,3 @@ kept_of f w shelf l back =
       root_below = λ root is. subst (λ (r : RootData). RootIds r (first_id (suc w.term))) (root_is_one f w.blobs w.doomed w.safe w.root root l.lawful.sound.carried.root_is is) (root_up w.root w.next_id (first_id (suc w.term)) up l.ids.root);
       ops_below = λ op m. work_up op.1 w.next_id (first_id (suc w.term)) up (record_below f w shelf l op m);
     })
-
--- a raise begins a root that isn't there
-pub raise_fresh_law : (f : Formats) (w new : World) (shelf : List Shelved) (k : ℕ) → Law f w shelf → Raise f w k new → Present f w.blobs (Root w.pending) → ⊥
-raise_fresh_law f w new shelf k l r p = raise_fresh f w new shelf k l.lawful.sound r p

@@ -10,7 +10,7 @@ use Rattle.esr_model.specs.Image.{Image}
 use Rattle.esr_model.specs.Kept.{Kept}
 use Rattle.esr_core.specs.World.{World, Ticket, record_of, image_of}
 use Rattle.esr_core.specs.Ids.{Law}
-use Rattle.esr_core.specs.Entry.{Snapshot, Step, AskStep, BeginStep, LatestStep, RaiseStep, SettleStep, DroppedStep, ElectStep, Refusal, AbortedBy, DepotFault, Reply, WasSettled, Refused, Moment, Prune, SettlePruned, PruneStep}
+use Rattle.esr_core.specs.Entry.{Step, AskStep, BeginStep, LatestStep, RaiseStep, SettleStep, DroppedStep, ElectStep, Refusal, AbortedBy, DepotFault, Reply, WasSettled, Refused, Moment, Prune, SettlePruned, PruneStep, Asked}
 use Rattle.esr_core.specs.After.{asked, raised, with_given, settled_of, dropped_of, done_step, has_text, is_latest, tried, faulted, answered, after, told_blob, test_left, delete_settled}
 use Rattle.esr_core.specs.Entry as entry
 use Rattle.esr_core.specs.Allowed as allowed
@@ -57,18 +57,16 @@ either_below w up false h = h
 
 left_safe : (w : World) (name : BlobName) (was now : Option Bytes) → (test_left w name was now).safe ≡ w.safe
 left_safe w name None (Some bytes) = refl
-left_safe w name None None = refl
-left_safe w name (Some was) now = refl
+left_safe w name was now = refl
+
+pub asked_safe : (w : World) (command : Asked) → (asked w command).safe ≡ w.safe
+asked_safe w (entry.DeleteSnapshots names) = ap (λ (x : World). x.safe) (delete_leaves w names)
+asked_safe w (entry.Clone source name indices time None) = refl
+asked_safe w command = refl
 
 pub fault_safe : (f : Formats) (w : World) (k : ℕ) (step : Step) (image : Option Image) → is_settle step ≡ false → (faulted f w k step image).safe ≡ w.safe
-fault_safe f w k (AskStep (Snapshot name indices time)) image e =
-    let up : World = asked w (Snapshot name indices time) in either_safe w up (has_text image (f.cluster.text (record_of up))) refl
-fault_safe f w k (AskStep (entry.Clone source name indices time None)) image e = either_safe w w (has_text image (f.cluster.text (record_of w))) refl
-fault_safe f w k (AskStep (entry.Clone source name indices time (Some taken))) image e =
-    let up : World = asked w (entry.Clone source name indices time (Some taken)) in either_safe w up (has_text image (f.cluster.text (record_of up))) refl
-fault_safe f w k (AskStep (entry.DeleteSnapshots names)) image e =
-    let up : World = asked w (entry.DeleteSnapshots names) in either_safe w up (has_text image (f.cluster.text (record_of up))) (ap (λ (x : World). x.safe) (delete_leaves w names))
-fault_safe f w k (AskStep entry.Cleanup) image e = let up : World = asked w entry.Cleanup in either_safe w up (has_text image (f.cluster.text (record_of up))) refl
+fault_safe f w k (AskStep (entry.Restore name place)) image e = refl
+fault_safe f w k (AskStep command) image e = let up : World = asked w command in either_safe w up (has_text image (f.cluster.text (record_of up))) (asked_safe w command)
 fault_safe f w k RaiseStep image e =
     let up : World = raised w k in either_safe w up (has_text image (f.cluster.text (record_of up))) (given_safe w k (λ t. record t { raised = Some w.pending }) (fin.get w.tickets k))
 fault_safe f w k SettleStep image e = absurd (true≢false e)

@@ -86,7 +86,6 @@ pub mod ReadSteps
 pub mod Completing
 pub mod Determined
 pub mod DoomsAll
-pub mod PruneFrames
 pub mod OpSources
 pub mod TidyTurns
 pub mod TidyHistories

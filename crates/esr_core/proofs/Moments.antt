@@ -7,7 +7,7 @@ use Rattle.std.specs.Cmp.Lexicographic.{nat_list_cmp_total}
 use Rattle.std.specs.FinMap as fin
 use Rattle.std.proofs.lemmas.Option.{same_Some}
 use Rattle.esr_core.specs.Laws.Asides.{blobs_stay}
-use Rattle.esr_model.specs.Names.{BlobName, Root, Latest, Snap, Meta, IndexMeta, ShardSnap, ShardIndex, File, Part, TestMaster, TestNode}
+use Rattle.esr_model.specs.Names.{BlobName, Latest, ShardSnap}
 use Rattle.esr_model.specs.Values.{Bytes, ShardResult, Formats, Has}
 use Rattle.esr_model.specs.Shelf.{Shelved}
 use Rattle.esr_model.specs.Kept.{first_id}
@@ -23,7 +23,7 @@ use Rattle.esr_core.specs.Entry.{CloneOf, Snapshot, DeleteSnapshots, Given, Give
 use Rattle.esr_core.specs.Past.{with_entry}
 use Rattle.esr_core.specs.After.{asked, asked_op, cleanup_opened, cloned_op, clone_opened, taken_by, taken_shard, with_given, change, committing, fetching, told_blob, settled_of, settled_by, failed_of, failed_by, is_stale, dropped_of, is_latest, tried, blobs_in, after, stepped, caller_after, read_told, read_over, shard_over, taken_restore, taken_restore_shard, test_left}
 use Rattle.esr_core.specs.Allowed as allowed
-use Rattle.esr_core.specs.Allowed.{PruneAllows, latest_text, Told, SameBlobs, Adds, Accepts, Gives, Commits, Refinds, Puts, Raises, Settles, Fails, Finishes, Drops, Dones, Allows, MayRead, Fetcher, ByReader, ByCheck, MayDelete, DeleteAllows, GoingInto, NotNamed, CloneStands, RestoreStands, FullOfOps, DeleteFault, AcceptsCleanup, CleanupAllows, OpeningCleanup, OpStands, TicketStands, CleanupFault, ListsPage, RestoreAllows, OpeningRestore, NotListed, NamedByDelete, FullOfRestores, AcceptsClone, CloneAllows, OpeningClone, CloneUsed, SourceNotListed, SourceDeleted, IndexMissing, FullOfClones, CloneSpent, CloneFault, ReadAllows, ReadFound, ReadMissing, ReadFault, RestoringShard, ReaderFailing, CheckingAll, CheckFailing, ByVerify, IsOwnTest, MayRemoveTests, VerifyAllows, DrawingTest, TestSpent, BeginningTest, BeginTestFails, CommittingTest, TestTaken, CommitTestFails, RemovingTests, RemoveTestsFails, VerifyingAll, VerifyFailing}
+use Rattle.esr_core.specs.Allowed.{PruneAllows, latest_text, Told, SameBlobs, Adds, Accepts, Gives, Commits, Refinds, Puts, Raises, Settles, Fails, Finishes, Drops, Dones, Allows, MayRead, Fetcher, ByReader, MayDelete, AcceptsCleanup, ListsPage, AcceptsClone, ReadAllows, ReadFound, ReadMissing, ReadFault, RestoringShard, ReaderFailing, CheckingAll, CheckFailing, IsOwnTest, MayRemoveTests, VerifyAllows, DrawingTest, TestSpent, BeginningTest, BeginTestFails, CommittingTest, TestTaken, CommitTestFails, RemovingTests, RemoveTestsFails, VerifyingAll, VerifyFailing}
 use Rattle.esr_core.specs.History.{counts, is_settle, command_of, command_by, commands_at}
 use Rattle.esr_core.specs.Turns.{AskCreate, AsksCreate, AskCleanup, AsksCleanup, TakesCleanup, CleanDrops, Pages, cleaning_ticket, Turn, Stays, Latests, Fetches, Raises as RaisesTurn, Finds, SettlesFinal, Elects, TakesShard, TakesFinal, TakesDrop, DrawsShard, Ending, Fails as FailsTurn, Drops as DropsTurn, Deposes, commands_of, Besides, OpensRestore, HandsShard, ReadsMore, EndsShard, Calls, Tests, DrawsTest, AddsTest, RemovesTests, TakesDelete}
 use Rattle.esr_core.specs.Turns as turns
@@ -269,20 +269,17 @@ module _ (f : Formats) (w : World) where
   pub shard_stale : (t : Ticket) (work : Work) → IsShard work → is_stale w t work ≡ false
   shard_stale t (Shard i n) h = refl
   shard_stale t (Finalize info rs made) h = absurd h
-  shard_stale t (Deleting uuids plan) h = absurd h
-  shard_stale t Drop h = absurd h
+  shard_stale t work h = absurd h
 
   pub master_stale : (t : Ticket) (work : Work) → IsMaster work → is_stale w t work ≡ (if t.term == w.term then false else true)
-  master_stale t (Shard i n) h = absurd h
   master_stale t (Finalize info rs made) h = refl
   master_stale t (Deleting uuids plan) h = refl
-  master_stale t Drop h = absurd h
+  master_stale t work h = absurd h
 
   pub no_shard : (work : Work) → IsMaster work → IsShard work → ⊥
   no_shard (Shard i n) m h = m
   no_shard (Finalize info rs made) m h = h
-  no_shard (Deleting uuids plan) m h = h
-  no_shard Drop m h = h
+  no_shard work m h = h
 
   fails_op : (k : ℕ) (why : Why) (image : Option Image) → SameBlobs w image → (c : Fails w k) → (IsShard c.t.work ⊎ ((c.t.term ≡ w.term) × IsMaster c.t.work)) → fin.get w.ops c.t.op ≡ Some c.op → is_stale w c.t c.t.work ≡ false
       → Turned f w k (FailedStep why) HasEnded (record (failed_of w k (fin.get w.tickets k)) { blobs = blobs_in image w.blobs })
@@ -356,17 +353,9 @@ blobs_told w i None e = absurd (cc)
 blobs_told w i (Some x) e = ap (λ (y : Image). y.blobs) (same_Some _ _ e)
 
 pub not_latest : (name : BlobName) → name ≢ Latest → is_latest name ≡ false
-not_latest (Root n) h = refl
 not_latest Latest h = absurd (h refl)
-not_latest (Snap u) h = refl
-not_latest (Meta u) h = refl
-not_latest (IndexMeta i u) h = refl
 not_latest (ShardSnap i s u) h = refl
-not_latest (ShardIndex i s g) h = refl
-not_latest (File i s x) h = refl
-not_latest (Part i s x p) h = refl
-not_latest (TestMaster v) h = refl
-not_latest (TestNode v n) h = refl
+not_latest name h = refl
 
 -- a begin that failed, of another name than `index.latest`
 begin_fails : (f : Formats) (w : World) (k : ℕ) (name : BlobName) (image : Option Image) → is_latest name ≡ false → SameBlobs w image
@@ -416,21 +405,6 @@ module _ (f : Formats) (size : ℕ) (w : World) (shelf : List Shelved) (l : Law 
       → AskCreate f w (cloned_op w name time taken) (clone_opened w name time taken)
   clone_asked source name names time o taken image told acc = accepted_clone f w source name names time o taken image acc shelf l (clone_info source name names time o taken image told acc)
 
-  asks_clone : (source name : Bytes) (names : List Bytes) (time : ℕ) (taken : Option CloneOf) (reply : Reply) (image : Option Image) → image ≡ Some i → CloneAllows f w source name names time taken reply image → SameBlobs w image
-      → Turned f w 0 (AskStep (entry.Clone source name names time taken)) reply (stepped f w (moment 0 (AskStep (entry.Clone source name names time taken)) reply image))
-  asks_clone source name names time taken reply image told (OpeningClone t o im acc) same =
-      plain f w 0 _ _ _
-      (AsksCreate _ (cloned_op w name time t) (subst (AskCreate f w (cloned_op w name time t)) (λ j. record (clone_opened w name time t) { blobs = sym (blobs_stay w im same) j }) (clone_asked source name names time o t im told acc))) refl refl
-  asks_clone source name names time taken reply image told (CloneUsed uuid im clear is) same = stays f w 0 (AskStep (entry.Clone source name names time None)) _ im same refl
-  asks_clone source name names time taken reply image told (SourceNotListed im may none) same = stays f w 0 (AskStep (entry.Clone source name names time None)) _ im same refl
-  asks_clone source name names time taken reply image told (SourceDeleted uuid d im may listed named) same = stays f w 0 (AskStep (entry.Clone source name names time None)) _ im same refl
-  asks_clone source name names time taken reply image told (IndexMissing uuid place im may missing) same = stays f w 0 (AskStep (entry.Clone source name names time None)) _ im same refl
-  asks_clone source name names time taken reply image told (FullOfClones uuid im may full) same = stays f w 0 (AskStep (entry.Clone source name names time None)) _ im same refl
-  asks_clone source name names time taken reply image told (CloneSpent uuid im may room spent) same = stays f w 0 (AskStep (entry.Clone source name names time None)) _ im same refl
-  asks_clone source name names time taken reply image told (CloneFault t im acc) same =
-      falls_plain f w 0 (AskStep (entry.Clone source name names time (Some t))) (clone_opened w name time t) (clone_opened w name time t)
-      (AsksCreate _ (cloned_op w name time t) (clone_asked source name names time w.next_op t im told acc)) _ im same refl refl refl refl
-
   -- ---- a delete that is asked
 
   going_into : (names : List Bytes) (image : Option Image) → MayDelete w names → SameBlobs w image
@@ -440,53 +414,13 @@ module _ (f : Formats) (size : ℕ) (w : World) (shelf : List Shelved) (l : Law 
       let turn = subst (λ (x : World). (t : Turn f w x) × (commands_of f w x t ≡ [])) (λ j. record (asked_delete w names) { blobs = kept j }) (delete_turn f w names may) in
       plain f w 0 (AskStep (DeleteSnapshots names)) (entry.Accepted (delete_number w names)) _ turn.0 refl turn.1
 
-  asks_delete : (names : List Bytes) (reply : Reply) (image : Option Image) → DeleteAllows w names reply → SameBlobs w image
-      → Turned f w 0 (AskStep (DeleteSnapshots names)) reply (stepped f w (moment 0 (AskStep (DeleteSnapshots names)) reply image))
-  asks_delete names reply image (GoingInto acc) same = going_into names image acc.may same
-  asks_delete names reply image (NotNamed place clear first) same = stays f w 0 (AskStep (DeleteSnapshots names)) _ image same refl
-  asks_delete names reply image (CloneStands o clear named lowest) same = stays f w 0 (AskStep (DeleteSnapshots names)) _ image same refl
-  asks_delete names reply image (RestoreStands o clear named no_clone lowest) same = stays f w 0 (AskStep (DeleteSnapshots names)) _ image same refl
-  asks_delete names reply image (FullOfOps may new full) same = stays f w 0 (AskStep (DeleteSnapshots names)) _ image same refl
-  asks_delete names reply image (DeleteFault acc) same =
-      let turn = delete_turn f w names acc.may in
-      falls_plain f w 0 (AskStep (DeleteSnapshots names)) (asked_delete w names) (asked_delete w names) turn.0 _ image same refl (ap (λ (x : World). x.blobs) (delete_leaves w names)) refl turn.1
-
   -- ---- a cleanup that is asked
 
   asked_cleanup : AcceptsCleanup w → (new : World) → new ≡ cleanup_opened w → AskCleanup w new
   asked_cleanup acc new e =
       record { no_op = λ o op h. acc.none_open o (inl (op, h)); no_delete = λ d x h. acc.none_open d (inr (x, h)); no_ticket = λ k t h out. acc.no_ticket k (t, record { there = h; out = out }); new_is = e }
 
-  asks_cleanup : (reply : Reply) (image : Option Image) → CleanupAllows w reply → SameBlobs w image → Turned f w 0 (AskStep Cleanup) reply (stepped f w (moment 0 (AskStep Cleanup) reply image))
-  asks_cleanup reply image (OpeningCleanup acc) same = plain f w 0 (AskStep Cleanup) _ _ (AsksCleanup _ (asked_cleanup acc _ (λ j. record (cleanup_opened w) { blobs = blobs_stay w image same j }))) refl refl
-  asks_cleanup reply image (OpStands o clear lowest) same = stays f w 0 (AskStep Cleanup) _ image same refl
-  asks_cleanup reply image (TicketStands k none lowest) same = stays f w 0 (AskStep Cleanup) _ image same refl
-  asks_cleanup reply image (CleanupFault acc) same = falls_plain f w 0 (AskStep Cleanup) (cleanup_opened w) (cleanup_opened w) (AsksCleanup _ (asked_cleanup acc _ refl)) _ image same refl refl refl refl
-
   -- ---- restores and reading
-
-  -- a restore that is asked
-  asks_restore : (name place : Bytes) (reply : Reply) (image : Option Image) → image ≡ Some i → RestoreAllows f w name reply image → SameBlobs w image
-      → Turned f w 0 (AskStep (Restore name place)) reply (stepped f w (moment 0 (AskStep (Restore name place)) reply image))
-  asks_restore name place reply image told (OpeningRestore o uuid indices im acc) same =
-      let listed : Lists w.root uuid = (acc.listed.0, acc.listed.1, acc.listed.3) in
-      let info : allowed.IsInInfo f w uuid indices = elim acc.indices_of.told [
-        | inl made ↦ made_info f w shelf l uuid indices listed made
-        | inr there ↦ of_told i im (λ blobs. allowed.IsInInfo f w uuid indices) told there
-      ] in
-      plain f w 0 (AskStep (Restore name place)) (AcceptedRestore o uuid indices) _
-      (Besides _ w (Stays w refl) (OpensRestore _ uuid place indices (record {
-        listed = listed;
-        spared = acc.spared;
-        info = info.0;
-        info_reads = info.1;
-        indices_is = info.2;
-        apart = acc.indices_of.within.apart;
-        new_is = λ j. record (restore_opened w uuid place indices) { blobs = blobs_stay w im same j };
-      }))) refl refl
-  asks_restore name place reply image told (NotListed im none) same = stays f w 0 (AskStep (Restore name place)) _ im same refl
-  asks_restore name place reply image told (NamedByDelete uuid d im listed named) same = stays f w 0 (AskStep (Restore name place)) _ im same refl
-  asks_restore name place reply image told (FullOfRestores uuid im listed spared full) same = stays f w 0 (AskStep (Restore name place)) _ im same refl
 
   -- a blob that a restore's ticket fetched
   reads_by : (k : ℕ) (name : BlobName) (image : Option Image) → image ≡ Some i → (q : Reader) → IsReading w k q → MayRead f q name image → (bytes : Bytes) → At f w.blobs name bytes → told_blob f image name ≡ Some bytes
@@ -505,8 +439,7 @@ module _ (f : Formats) (size : ℕ) (w : World) (shelf : List Shelved) (l : Law 
   found_by : (k : ℕ) (name : BlobName) (image : Option Image) → image ≡ Some i → Fetcher f w name image k → (bytes : Bytes) → At f w.blobs name bytes → told_blob f image name ≡ Some bytes → SameBlobs w image
       → Turned f w k (ReadStep (ReadBlob name)) entry.WasFetched (stepped f w (moment k (ReadStep (ReadBlob name)) entry.WasFetched image))
   found_by who name image told (ByReader k q out may) bytes at is same = reads_by k name image told q out may bytes at is same
-  found_by who name image told (ByCheck may) bytes at is same = stays f w 0 (ReadStep (ReadBlob name)) entry.WasFetched image same refl
-  found_by who name image told (ByVerify may) bytes at is same = stays f w 0 (ReadStep (ReadBlob name)) entry.WasFetched image same refl
+  found_by who name image told other bytes at is same = stays f w 0 (ReadStep (ReadBlob name)) entry.WasFetched image same refl
 
   missing_by : (k : ℕ) (name : BlobName) (image : Option Image) → SameBlobs w image → Turned f w k (ReadStep (ReadBlob name)) entry.WasAbsent (stepped f w (moment k (ReadStep (ReadBlob name)) entry.WasAbsent image))
   missing_by zero name image same = stays f w 0 (ReadStep (ReadBlob name)) entry.WasAbsent image same refl
@@ -650,18 +583,33 @@ module _ (f : Formats) (size : ℕ) (w : World) (shelf : List Shelved) (l : Law 
       plain f w k DroppedStep HasEnded _ turn.0 refl turn.1
   turn_of who step reply image told (allowed.Electing im room same) = plain f w 0 ElectStep _ _ (Elects _ (record { new_is = λ j. record w { term = suc w.term; next_id = first_id (suc w.term); blobs = blobs_stay w im same j } })) refl refl
   turn_of who step reply image told (allowed.Looking im same) = stays f w 0 LookStep _ im same refl
-  turn_of who step reply image told (allowed.AskingRestore name place rep im h same) = asks_restore name place rep im told h same
-  turn_of who step reply image told (allowed.AskingClone source name names time taken rep im h same) = asks_clone source name names time taken rep im told h same
-  turn_of who step reply image told (allowed.AskingDelete names rep im h same) = asks_delete names rep im h same
-  turn_of who step reply image told (allowed.AskingCleanup rep im h same) = asks_cleanup rep im h same
+  turn_of who step reply image told (allowed.OpeningRestore name place o uuid indices im acc same) =
+      let listed : Lists w.root uuid = (acc.listed.0, acc.listed.1, acc.listed.3) in
+      let info : allowed.IsInInfo f w uuid indices = elim acc.indices_of.told [
+        | inl made ↦ made_info f w shelf l uuid indices listed made
+        | inr there ↦ of_told i im (λ blobs. allowed.IsInInfo f w uuid indices) told there
+      ] in
+      plain f w 0 (AskStep (Restore name place)) (AcceptedRestore o uuid indices) _
+      (Besides _ w (Stays w refl) (OpensRestore _ uuid place indices (record {
+        listed = listed;
+        spared = acc.spared;
+        info = info.0;
+        info_reads = info.1;
+        indices_is = info.2;
+        apart = acc.indices_of.within.apart;
+        new_is = λ j. record (restore_opened w uuid place indices) { blobs = blobs_stay w im same j };
+      }))) refl refl
+  turn_of who step reply image told (allowed.OpeningClone source name names time o t im acc same) =
+      plain f w 0 _ _ _
+      (AsksCreate _ (cloned_op w name time t) (subst (AskCreate f w (cloned_op w name time t)) (λ j. record (clone_opened w name time t) { blobs = sym (blobs_stay w im same) j }) (clone_asked source name names time o t im told acc))) refl refl
+  turn_of who step reply image told (allowed.GoingInto names im acc same) = going_into names im acc.may same
+  turn_of who step reply image told (allowed.OpeningCleanup im acc same) = plain f w 0 (AskStep Cleanup) _ _ (AsksCleanup _ (asked_cleanup acc _ (λ j. record (cleanup_opened w) { blobs = blobs_stay w im same j }))) refl refl
   turn_of who step reply image told (allowed.Reading k read rep im h same) = reads k read rep im told h same
   turn_of who step reply image told (allowed.Verifying read rep im h) = verifies read rep im told h
   turn_of who step reply image told (allowed.Pruning k prune rep im h) =
       subst (λ x. Turned f w k (PruneStep prune) rep (stepped f w (moment k (PruneStep prune) rep x))) (sym told) (pruning k prune rep (subst (PruneAllows f w k prune rep) told h))
-  turn_of who step reply image told (allowed.Cleaning c d x im recorded untaken there clean same) = stays f w 0 (AskStep c) _ im same refl
-  turn_of who step reply image told (allowed.Used name indices time uuid im clear is same) = stays f w 0 (AskStep (Snapshot name indices time)) _ im same refl
-  turn_of who step reply image told (allowed.Full name indices time im clear unused full same) = stays f w 0 (AskStep (Snapshot name indices time)) _ im same refl
-  turn_of who step reply image told (allowed.AskSpent name indices time im clear unused room spent same) = stays f w 0 (AskStep (Snapshot name indices time)) _ im same refl
+  turn_of who step reply image told (allowed.Ruled command refusal im (allowed.Cleaning c d x recorded untaken there clean) same) = stays f w 0 (AskStep c) _ im same refl
+  turn_of who step reply image told (allowed.Ruled command refusal im rule same) = stays f w 0 (AskStep command) _ im same refl
   turn_of who step reply image told (allowed.DrawSpent k n im may spent same) = stays f w k (DrawStep n) _ im same refl
   turn_of who step reply image told (allowed.RaiseStale k im may apart same) = stays f w k RaiseStep _ im same refl
   turn_of who step reply image told (allowed.SettleStale k n t s im may apart same) = stays f w k SettleStep _ im same refl
@@ -683,6 +631,13 @@ module _ (f : Formats) (size : ℕ) (w : World) (shelf : List Shelved) (l : Law 
   turn_of who step reply image told (allowed.FetchFails k name im g same) = fault_stays f w k (FetchStep name) im same refl
   turn_of who step reply image told (allowed.ListFails k from im g same) = fault_stays f w k (ListStep from) im same refl
   turn_of who step reply image told (allowed.AskFails name indices time im acc same) = ask_fails name indices time im acc same
+  turn_of who step reply image told (allowed.AskCloneFails source name names time t im acc same) =
+      falls_plain f w 0 (AskStep (entry.Clone source name names time (Some t))) (clone_opened w name time t) (clone_opened w name time t)
+      (AsksCreate _ (cloned_op w name time t) (clone_asked source name names time w.next_op t im told acc)) _ im same refl refl refl refl
+  turn_of who step reply image told (allowed.AskDeleteFails names im acc same) =
+      let turn = delete_turn f w names acc.may in
+      falls_plain f w 0 (AskStep (DeleteSnapshots names)) (asked_delete w names) (asked_delete w names) turn.0 _ im same refl (ap (λ (x : World). x.blobs) (delete_leaves w names)) refl turn.1
+  turn_of who step reply image told (allowed.AskCleanupFails im acc same) = falls_plain f w 0 (AskStep Cleanup) (cleanup_opened w) (cleanup_opened w) (AsksCleanup _ (asked_cleanup acc _ refl)) _ im same refl refl refl refl
   turn_of who step reply image told (allowed.RaiseFails k im r same) =
       falls_plain f w k RaiseStep _ (record w { pending = suc w.pending; tickets = fin.insert w.tickets k (record r.may.t { raised = Some w.pending }) })
       (RaisesTurn _ k (record { t = r.may.t; out = r.may.out; swapped = r.may.s; is = r.may.is; unsettled = r.may.unsettled; present = r.present; once = r.may.once; new_is = refl })) _ im same

@@ -1,5 +1,5 @@
 -- The next id stays one of the present term, and the uuids that open deletes name stay below it.
-use Rattle.std.proofs.Common.{◌≡◌, ◌⊎◌, ℕ, suc, ◌+◌, ◌<◌, ◌≤◌, List, ◌++◌, Bool, true, false, Some, refl, sym, ap, ◌∙◌, subst, inl, inr, arith}
+use Rattle.std.proofs.Common.{◌≡◌, ◌⊎◌, ℕ, suc, ◌+◌, ◌<◌, ◌≤◌, List, ◌++◌, Bool, true, false, refl, sym, ap, ◌∙◌, subst, inl, inr, arith}
 use Rattle.std.specs.Prelude.{if◌then◌else◌}
 use Rattle.std.specs.FinMap as fin
 use Rattle.esr_core.specs.Laws.NumberMaps.{was_in, left_in}
@@ -79,14 +79,6 @@ turn_in_term f w new l (Removing m k names h) = same_term w m (ap term_of h.new_
 turn_in_term f w new l (Deposes m up h e) = same_term up m (ap term_of e) (ap next_of e) (turn_in_term f w up l h)
 turn_in_term f w new l (Tests m t) = tests_term f w l m t
 turn_in_term f w new l (Besides m up h r) = term_aside up m (aside_of f up m r) (turn_in_term f w up l h)
-
--- deletes that were, or that name known uuids alone
-below_from : (c d : ℕ) (old now : Deletes) → c ≤ d → ((n : ℕ) (x : Deletion) → fin.get now n ≡ Some x → (u : ℕ) → Has x.uuids u → ((p : ℕ) × (y : Deletion) × (fin.get old p ≡ Some y) × Has y.uuids u) ⊎ (u < c))
-    → DeletionIds c old → DeletionIds d now
-below_from c d old now le from h n x e u m = elim (from n x e u m) [
-  | inl z ↦ let b : u < c = h z.0 z.1 z.2 u z.3 in omega (arith, b)
-  | inr b ↦ omega (arith, b)
-]
 
 same_below : (w new : World) → new.next_id ≡ w.next_id → new.deletes ≡ w.deletes → DeletionIds w.next_id w.deletes → DeletionIds new.next_id new.deletes
 same_below w new n e h = subst (λ c. DeletionIds c new.deletes) (sym n) (subst (DeletionIds w.next_id) (sym e) h)

@@ -25,11 +25,10 @@ IsFile f has index number e file = (e.physical ≡ file.0) × FileStands f has i
 contents_one : (f : Formats) (has : BlobName → Bytes → Type 0) → IsOne has → (index number : ℕ) (es : List FileEntry) (contents : List Bytes) (files : List (Bytes × Bytes))
     → AllPairs (FileStands f has index number) es contents → AllPairs (IsFile f has index number) es files → contents ≡ map (λ (file : Bytes × Bytes). file.1) files
 contents_one f has func index number [] [] [] h k = refl
-contents_one f has func index number [] [] (y ∷ files) h k = absurd k
 contents_one f has func index number [] (c ∷ contents) files h k = absurd h
 contents_one f has func index number (e ∷ es) [] files h k = absurd h
-contents_one f has func index number (e ∷ es) (c ∷ contents) [] h k = absurd k
 contents_one f has func index number (e ∷ es) (c ∷ contents) (y ∷ files) h k = λ i. file_one f has func index number e c y.1 h.0 k.0.1 i ∷ contents_one f has func index number es contents files h.1 k.1 i
+contents_one f has func index number es contents files h k = absurd k
 
 lengths : (files : List (Bytes × Bytes)) → sum_by (λ (b : Bytes). length b) (map (λ (file : Bytes × Bytes). file.1) files) ≡ sum_by (λ (file : Bytes × Bytes). length file.1) files
 lengths [] = refl

@@ -11,7 +11,7 @@ use Rattle.esr_core.specs.Steps.{noting, listing, with_ticket, given}
 use Rattle.esr_core.specs.Turns.{fails}
 use Rattle.esr_core.specs.Pruning.{planned}
 use Rattle.esr_core.specs.Deletes.{named_uuids, waiting_delete, running_delete, aborted_ops, delete_merged, delete_by}
-use Rattle.esr_core.specs.Entry.{Asked, Snapshot, Clone, DeleteSnapshots, Cleanup, AsksNoClone, AsksNoSnapshot, Restore, Given, GivenShard, GivenClone, GivenFinalize, GivenDrop, GivenRestore, GivenDelete, GivenCleanup, Read, DrawTest, CommitTest, Prune, FetchShard, PlanShards, SettlePruned, RemoveDoomed, EndDelete, DeleteFails, Step, AskStep, TakeStep, ListStep, WasListed, DrawStep, BeginStep, CommitStep, LatestStep, FetchStep, RaiseStep, SettleStep, DoneStep, FailedStep, FinishStep, DroppedStep, ElectStep, ReadStep, PruneStep, DepotFault, Reply, Gave, DrawnFrom, WasDone, WasThere, WasFetched, HasEnded, Refused, AcceptedRestore, Moment}
+use Rattle.esr_core.specs.Entry.{Asked, Snapshot, Clone, DeleteSnapshots, AsksNoClone, AsksNoSnapshot, Restore, Given, GivenShard, GivenClone, GivenFinalize, GivenRestore, Read, DrawTest, CommitTest, Prune, FetchShard, PlanShards, SettlePruned, RemoveDoomed, EndDelete, DeleteFails, Step, AskStep, TakeStep, ListStep, WasListed, DrawStep, BeginStep, CommitStep, LatestStep, FetchStep, RaiseStep, SettleStep, DoneStep, FailedStep, FinishStep, DroppedStep, ElectStep, ReadStep, PruneStep, DepotFault, Reply, Gave, DrawnFrom, WasDone, WasThere, WasFetched, HasEnded, Refused, AcceptedRestore, Moment}
 use Rattle.esr_core.specs.After.{asked_op, cloned_op, taken_shard, taken_by, shard_of, with_given, change, committing, told_blob, fetching, settled_by, settled_of, done_by, done_of, is_stale, failed_by, failed_of, dropped_of, delete_settled_by, delete_settled, delete_failed_by, delete_failed, prune_step, read_by, done_step, swaps_record, has_text, fallen, is_latest, tried, test_left, faulted, answered, after}
 use Rattle.esr_core.specs.Laws.DeleteAsks.{aborts}
 use Rattle.esr_core.specs.Laws.Asides.{Aside, aside_step}
@@ -61,20 +61,14 @@ module _ (p : Option ℕ → Type 0) where
 
   taken_sources : (f : Formats) (w : World) (o : ℕ) (unit : Given) (op : Option Op) → fin.get w.ops o ≡ op → SourcesAre p w.ops → SourcesAre p (taken_by f w o unit op).ops
   taken_sources f w o (GivenShard index number base) (Some op) there h = taken_shard_sources w o op base (shard_of op.shards index number) there h
-  taken_sources f w o (GivenShard index number base) None there h = h
   taken_sources f w o (GivenClone index number source base) (Some op) there h = taken_shard_sources w o op base (shard_of op.shards index number) there h
-  taken_sources f w o (GivenClone index number source base) None there h = h
   taken_sources f w o (GivenFinalize info results) (Some op) there h = h
-  taken_sources f w o (GivenFinalize info results) None there h = h
-  taken_sources f w o GivenDrop op there h = h
   taken_sources f w o (GivenRestore index number uuid) op there h = aside w _ (aside_taken w o index number (fin.get w.restores o)) h
-  taken_sources f w o (GivenDelete uuids) op there h = h
-  taken_sources f w o GivenCleanup op there h = h
+  taken_sources f w o unit op there h = h
 
   settled_by_sources : (f : Formats) (w : World) (k : ℕ) (t : Ticket) (s : Option Swap) (n : Option ℕ) → SourcesAre p w.ops → SourcesAre p (settled_by f w k t s n).ops
   settled_by_sources f w k t (Some s) (Some n) h = left w.ops t.op h
-  settled_by_sources f w k t (Some s) None h = h
-  settled_by_sources f w k t None n h = h
+  settled_by_sources f w k t s n h = h
 
   settled_sources : (f : Formats) (w : World) (k : ℕ) (o : Option Ticket) → SourcesAre p w.ops → SourcesAre p (settled_of f w k o).ops
   settled_sources f w k None h = h
@@ -115,8 +109,7 @@ module _ (p : Option ℕ → Type 0) where
 
   delete_settled_by_sources : (f : Formats) (w : World) (k : ℕ) (t : Ticket) (s : Option Swap) (n : Option ℕ) → SourcesAre p w.ops → SourcesAre p (delete_settled_by f w k t s n).ops
   delete_settled_by_sources f w k t (Some s) (Some n) h = left w.ops t.op h
-  delete_settled_by_sources f w k t (Some s) None h = h
-  delete_settled_by_sources f w k t None n h = h
+  delete_settled_by_sources f w k t s n h = h
 
   delete_settled_sources : (f : Formats) (w : World) (k : ℕ) (o : Option Ticket) → SourcesAre p w.ops → SourcesAre p (delete_settled f w k o).ops
   delete_settled_sources f w k None h = h
@@ -133,12 +126,11 @@ module _ (p : Option ℕ → Type 0) where
 
   prune_sources : (f : Formats) (w : World) (k : ℕ) (prune : Prune) (reply : Reply) (image : Option Image) → SourcesAre p w.ops → SourcesAre p (prune_step f w k prune reply image).ops
   prune_sources f w k (FetchShard name) WasFetched image h = changed w k (fetching name (told_blob f image name)) h
-  prune_sources f w k (FetchShard name) reply image h = h
   prune_sources f w k (PlanShards shards) reply image h = changed w k (planned f shards w.next_id) h
   prune_sources f w k SettlePruned reply image h = delete_settled_sources f w k (fin.get w.tickets k) h
-  prune_sources f w k (RemoveDoomed names) reply image h = h
   prune_sources f w k EndDelete reply image h = changed w k (λ t. record t { out = false }) h
   prune_sources f w k (DeleteFails why) reply image h = delete_failed_sources w k (fin.get w.tickets k) h
+  prune_sources f w k prune reply image h = h
 
   read_sources : (f : Formats) (w : World) (k : ℕ) (read : Read) (reply : Reply) (image : Option Image) → SourcesAre p w.ops → SourcesAre p (read_by f w k read reply image).ops
   read_sources f w zero DrawTest (DrawnFrom first) image h = h
@@ -148,11 +140,9 @@ module _ (p : Option ℕ → Type 0) where
 
   step_sources : (f : Formats) (w : World) (k : ℕ) (step : Step) (reply : Reply) (image : Option Image) → Opens p step → SourcesAre p w.ops → SourcesAre p (done_step f w k step reply image).ops
   step_sources f w k (AskStep (Snapshot name indices moment)) reply image opens h = put w.ops w.next_op (asked_op w name indices moment) h opens
-  step_sources f w k (AskStep (Clone source name indices moment None)) reply image opens h = h
   step_sources f w k (AskStep (Clone source name indices moment (Some taken))) reply image opens h = put w.ops w.next_op (cloned_op w name moment taken) h opens
   step_sources f w k (AskStep (DeleteSnapshots names)) reply image opens h = delete_sources w names (waiting_delete w) (running_delete w (named_uuids w names)) h
   step_sources f w k (AskStep (Restore name place)) (AcceptedRestore o uuid indices) image opens h = h
-  step_sources f w k (AskStep Cleanup) reply image opens h = h
   step_sources f w k TakeStep (Gave ticket op unit) image opens h = taken_sources f w op unit (fin.get w.ops op) refl h
   step_sources f w k (DrawStep n) reply image opens h = changed w k (λ t. record t { first = w.next_id; drawn = n }) h
   step_sources f w k (CommitStep name) WasDone image opens h = changed w k (committing name (told_blob f image name)) h
@@ -177,8 +167,7 @@ module _ (p : Option ℕ → Type 0) where
 
   left_ops : (w : World) (name : BlobName) (was now : Option Bytes) → (test_left w name was now).ops ≡ w.ops
   left_ops w name None (Some b) = refl
-  left_ops w name None None = refl
-  left_ops w name (Some b) now = refl
+  left_ops w name was now = refl
 
   asked_fault : (f : Formats) (w : World) (k : ℕ) (command : Asked) (image : Option Image) (b : Bool) → Opens p (AskStep command) → SourcesAre p w.ops
       → SourcesAre p (if b then fallen f w (done_step f w k (AskStep command) HasEnded image) image else w).ops

@@ -2,7 +2,7 @@
 use Rattle.std.proofs.Common.{◌≡◌, ◌≢◌, ◌⊎◌, ℕ, ◌<◌, List, [], ◌∷◌, ◌++◌, Some, refl, sym, ap, ◌∙◌, subst, inl, inr}
 use Rattle.std.specs.FinMap as fin
 use Rattle.std.proofs.lemmas.Option.{same_Some}
-use Rattle.esr_model.specs.Names.{BlobName, Root, Latest, Snap, Meta, IndexMeta, ShardSnap, ShardIndex, File, Part, TestMaster, TestNode}
+use Rattle.esr_model.specs.Names.{BlobName, Root, Latest, ShardSnap}
 use Rattle.esr_model.specs.Values.{Bytes, Ledger, ReadsBack, Formats}
 use Rattle.esr_model.specs.Shelf.{Shelved}
 use Rattle.esr_model.specs.Kept.{IdsBelow}
@@ -34,16 +34,8 @@ listed_either f xs ys name m =
 
 pub latest_or : (name : BlobName) → (name ≡ Latest) ⊎ (name ≢ Latest)
 latest_or Latest = inl refl
-latest_or (Root n) = inr (λ e. cc)
-latest_or (Snap u) = inr (λ e. cc)
-latest_or (Meta u) = inr (λ e. cc)
-latest_or (IndexMeta i u) = inr (λ e. cc)
 latest_or (ShardSnap i k u) = inr (λ e. cc)
-latest_or (ShardIndex i k g) = inr (λ e. cc)
-latest_or (File i k x) = inr (λ e. cc)
-latest_or (Part i k x p) = inr (λ e. cc)
-latest_or (TestMaster v) = inr (λ e. cc)
-latest_or (TestNode v n) = inr (λ e. cc)
+latest_or name = inr (λ e. cc)
 
 -- a text that is there and reads as a name is that name's
 pub text_named : (f : Formats) (has : BlobName → Bytes → Type 0) (blobs : Blobs) (ledger : Ledger) (shelf : List Shelved) → KeptBy f has blobs ledger shelf → (text bytes : Bytes) → fin.get blobs text ≡ Some bytes → (name : BlobName)

@@ -21,6 +21,5 @@ file_below f c has below i k e bytes s = elim (cases_Bool (leb e.len e.part_size
 
     many : leb e.len e.part_size ≡ false → (n : ℕ) (parts : List Bytes) → AllPairs has (parts_from i k e.name 0 n) parts → concat parts ≡ bytes → e.name < c
     many t zero [] h joined = absurd (true≢false (sym (le-leb e.len e.part_size (let z : length bytes ≡ 0 = ap length (sym joined) in let l : length bytes ≡ e.len = s.len in omega (arith, z, l))) ∙ t))
-    many t zero (p ∷ parts) h joined = absurd h
-    many t (suc n) [] h joined = absurd h
     many t (suc n) (p ∷ parts) h joined = (below (Part i k e.name 0) p h.0).1
+    many t n parts h joined = absurd h

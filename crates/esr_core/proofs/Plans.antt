@@ -4,7 +4,7 @@ use Rattle.std.specs.Prelude.{◌==◌, ◌&&◌}
 use Rattle.std.specs.FinMap as fin
 use Rattle.std.proofs.lemmas.Bool.{and_parts, eqb-true, cond-true, cond-false, cases_Bool}
 use Rattle.std.proofs.lemmas.Option.{same_Some, none-some}
-use Rattle.esr_model.specs.Names.{BlobName, Root, Latest, Snap, Meta, IndexMeta, ShardSnap, ShardIndex, File, Part, TestMaster, TestNode}
+use Rattle.esr_model.specs.Names.{BlobName, Root, ShardIndex}
 use Rattle.esr_model.specs.Values.{Bytes, Has, RootSnap, RootData, ShardFiles, ReadsBack, IsOneEach, Formats}
 use Rattle.esr_model.specs.Shelf.{Shelved, Delete, names_uuid}
 use Rattle.esr_model.specs.Kept.{RootIds, first_id}
@@ -33,16 +33,7 @@ is_index_name i k g (ShardIndex a b c) e =
     let outer = and_parts ((a == i) && (b == k)) (c == g) e in
     let inner = and_parts (a == i) (b == k) outer.0 in
     λ j. ShardIndex (eqb-true a i inner.0 j) (eqb-true b k inner.1 j) (eqb-true c g outer.1 j)
-is_index_name i k g (Root n) e = absurd (clash false e refl)
-is_index_name i k g Latest e = absurd (clash false e refl)
-is_index_name i k g (Snap u) e = absurd (clash false e refl)
-is_index_name i k g (Meta u) e = absurd (clash false e refl)
-is_index_name i k g (IndexMeta x u) e = absurd (clash false e refl)
-is_index_name i k g (ShardSnap x s u) e = absurd (clash false e refl)
-is_index_name i k g (File x s n) e = absurd (clash false e refl)
-is_index_name i k g (Part x s n p) e = absurd (clash false e refl)
-is_index_name i k g (TestMaster v) e = absurd (clash false e refl)
-is_index_name i k g (TestNode v n) e = absurd (clash false e refl)
+is_index_name i k g name e = absurd (clash false e refl)
 
 -- the bytes that are found are among what was read
 pub bytes_there : (read : List (BlobName × Bytes)) (p : PrunedShard) (b : Bytes) → index_bytes read p ≡ Some b → Has read (ShardIndex p.index p.number p.base, b)

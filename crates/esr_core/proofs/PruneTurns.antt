@@ -9,7 +9,7 @@ use Rattle.esr_model.specs.Values.{Bytes, Has, RootIndex, RootData, IsOneEach, F
 use Rattle.esr_model.specs.Shelf.{Shelved}
 use Rattle.esr_model.specs.Image.{Blobs, Image, Generation, at_shard_of}
 use Rattle.esr_model.specs.Reach.{Reached}
-use Rattle.esr_model.specs.Cleanup.{names_listed, is_generation, reaches}
+use Rattle.esr_model.specs.Cleanup.{names_listed, is_generation}
 use Rattle.esr_model.specs.Delete.{PrunedShard, kept_count, left_uuids, uuids_of, pruned_blobs, deleted_root, doomed_names}
 use Rattle.esr_core.specs.World.{World, Deletion, Deleting, Ticket, Swap, HeldIn}
 use Rattle.esr_core.specs.Ready.{IsMaster, IsShard}
@@ -29,7 +29,7 @@ use Rattle.esr_core.specs.Laws.DeleteRoots.{one_found}
 use Rattle.esr_core.specs.Laws.DoomNames.{dooms_is}
 use Rattle.esr_core.proofs.DeletionLaws.{cleans_is}
 use Rattle.esr_core.specs.Laws.Tests.{same_number}
-use Rattle.esr_core.specs.Laws.CleanupReach.{IsHeldNow, IsReachedBy, reached_by, reaches_has, cleaned_was}
+use Rattle.esr_core.specs.Laws.CleanupReach.{IsHeldNow, reaches_has, cleaned_was}
 use Rattle.esr_core.proofs.Cleaning.{cleaned_held}
 use Rattle.esr_core.proofs.Plans.{plan_draw}
 use Rattle.esr_core.proofs.DoomedNames.{doomed_reached, doomed_aside, doomed_root_is}
@@ -128,9 +128,6 @@ module _ (f : Formats) (w : World) (shelf : List Shelved) (l : Law f w shelf) wh
         subst (λ (x : Swap). IsHeldNow f (HeldIn f w) x.root (x.own ++ s.t.read)) (sym plan.swap_is)
         (cleaned_held f (HeldIn f w) (held_one f w) s.t.root once s.uuids s.t.read s.t.first s.t.clean clean
         pruned.held plan.are_read plan.of_root plan.writable written)
-
-    pub reaches_is : s.t.clean ≡ true → (name : BlobName) → (reaches f s.t.raised s.s.root (s.s.own ++ s.t.read) name ≡ true) → IsReachedBy f (HeldIn f w) s.s.root s.t.raised name
-    reaches_is clean name e = reached_by f (HeldIn f w) s.s.root s.t.raised (s.s.own ++ s.t.read) (held_now clean) name e
 
     clean_left : s.t.clean ≡ true → (name : BlobName) → Has (dooms f s.t) name → Reached f (HeldIn f w) s.s.root name → ⊥
     clean_left clean name m r =

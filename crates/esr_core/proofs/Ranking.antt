@@ -15,10 +15,10 @@ use Rattle.esr_core.specs.Pruning.{planned}
 use Rattle.esr_core.specs.World.{World, Op, Ticket, opened, Deletion}
 use Rattle.esr_core.specs.Ready.{IsMaster}
 use Rattle.esr_core.specs.Steps.{with_ticket, listing}
-use Rattle.esr_core.specs.Entry.{CloneOf, Clone, Given, GivenShard, GivenFinalize, GivenDrop, Step, Reply, Moment, GivenRestore, DeleteSnapshots, Restore, Cleanup, AskStep, ReadStep, Read, ReadBlob, RestoredShard, ReadFails, WasFetched, WasAbsent, HasEnded, GivenClone, GivenDelete, GivenCleanup, Prune, PruneStep}
+use Rattle.esr_core.specs.Entry.{Given, GivenShard, GivenFinalize, GivenDrop, Step, Reply, Moment, GivenRestore, ReadStep, Read, ReadBlob, RestoredShard, ReadFails, WasFetched, WasAbsent, HasEnded, GivenClone, GivenDelete, GivenCleanup, Prune, PruneStep}
 use Rattle.esr_core.specs.After.{cleanup_opened, clone_opened, taken_by, taken_shard, with_given, change, committing, fetching, told_blob, done_of, done_by, failed_of, failed_by, is_stale, settled_of, dropped_of, tried, answered, blobs_in, after, test_left, delete_settled, delete_failed, delete_failed_by}
 use Rattle.esr_core.specs.Allowed as allowed
-use Rattle.esr_core.specs.Allowed.{MayPlan, SettlesDeletion, FailsDeletion, PruneAllows, FetchingShard, ShardMissing, FetchShardFails, Planning, PlanSpent, SettlingDelete, SettleDeleteStale, SettleDeleteFails, RemovingDoomed, RemoveDoomedFails, EndingDelete, FailingDelete, Gives, Settles, Fails, Drops, Dones, Allows, Allowed, MayRaise, DeleteAllows, GoingInto, NotNamed, CloneStands, RestoreStands, FullOfOps, DeleteFault, CleanupAllows, OpeningCleanup, OpStands, TicketStands, CleanupFault, RestoreAllows, OpeningRestore, NotListed, NamedByDelete, FullOfRestores, CloneAllows, OpeningClone, CloneUsed, SourceNotListed, SourceDeleted, IndexMissing, FullOfClones, CloneSpent, CloneFault, ReadAllows, ReadFound, ReadMissing, ReadFault, RestoringShard, ReaderFailing, CheckingAll, CheckFailing, VerifyAllows, DrawingTest, TestSpent, BeginningTest, BeginTestFails, CommittingTest, TestTaken, CommitTestFails, RemovingTests, RemoveTestsFails, VerifyingAll, VerifyFailing}
+use Rattle.esr_core.specs.Allowed.{MayPlan, SettlesDeletion, FailsDeletion, PruneAllows, FetchingShard, Planning, SettlingDelete, SettleDeleteFails, EndingDelete, FailingDelete, Gives, Settles, Fails, Drops, Dones, Allows, Allowed, MayRaise, ReadAllows, ReadFound, ReadMissing, RestoringShard, ReaderFailing, VerifyAllows, CommitTestFails}
 use Rattle.esr_core.specs.History.{world_from, IsLegal}
 use Rattle.esr_core.specs.Tracked.{Tracked}
 use Rattle.esr_core.specs.Ranked.{Ranks, Ranked}
@@ -232,101 +232,42 @@ module _ (f : Formats) (size : ℕ) (w : World) (q : Tracked w) (l : Ranked w) w
 
   prunes : (k : ℕ) (prune : Prune) (reply : Reply) (image : Option Image) → PruneAllows f w k prune reply image → Ranked (after f w (moment k (PruneStep prune) reply image))
   prunes who prune reply image (FetchingShard k name im g found) = fetches k g.t g.deleting.out.there name (told_blob f im name)
-  prunes who prune reply image (ShardMissing k name im g found) = l
-  prunes who prune reply image (FetchShardFails k name im g same) = l
   prunes who prune reply image (Planning k shards im p fits back same) = plans k shards im p
-  prunes who prune reply image (PlanSpent k shards im p spent same) = l
   prunes who prune reply image (SettlingDelete k im s present same) = deletion_settles k s present
-  prunes who prune reply image (SettleDeleteStale k im s apart same) = l
   prunes who prune reply image (SettleDeleteFails k im s present same) = ranks_falls w _ l (deletion_settles k s present) _ (blobs_in im w.blobs)
-  prunes who prune reply image (RemovingDoomed k names im r removed) = l
-  prunes who prune reply image (RemoveDoomedFails k names im r removes) = l
   prunes who prune reply image (EndingDelete k im e same) = changes k e.t e.deleting.out.there (λ (t : Ticket). record t { out = false }) (alike_ended e.t)
   prunes who prune reply image (FailingDelete k why im c same) = deletion_fails k c
+  prunes who prune reply image other = l
 
   elects : Ranks w.safe w.pending (suc w.term) w.tickets
   elects = ranks_elect w.safe w.pending w.term w.tickets l (suc w.term) (λ k t there same. let b : t.term ≤ w.term = (q.tickets k t there).1 in absurd (omega (arith, b, same)))
 
-  -- ---- a clone that is asked
-
-  asks_clone : (source name : Bytes) (names : List Bytes) (time : ℕ) (taken : Option CloneOf) (reply : Reply) (image : Option Image) → CloneAllows f w source name names time taken reply image
-      → Ranked (after f w (moment 0 (AskStep (Clone source name names time taken)) reply image))
-  asks_clone source name names time taken reply image (OpeningClone t o im acc) = l
-  asks_clone source name names time taken reply image (CloneUsed uuid im clear is) = l
-  asks_clone source name names time taken reply image (SourceNotListed im may none) = l
-  asks_clone source name names time taken reply image (SourceDeleted uuid d im may listed named) = l
-  asks_clone source name names time taken reply image (IndexMissing uuid place im may missing) = l
-  asks_clone source name names time taken reply image (FullOfClones uuid im may full) = l
-  asks_clone source name names time taken reply image (CloneSpent uuid im may room spent) = l
-  asks_clone source name names time taken reply image (CloneFault t im acc) = ranks_falls w (clone_opened w name time t) l l _ (blobs_in im w.blobs)
-
-  -- ---- a delete that is asked
-
-  asks_delete : (names : List Bytes) (reply : Reply) (image : Option Image) → DeleteAllows w names reply → Ranked (after f w (moment 0 (AskStep (DeleteSnapshots names)) reply image))
-  asks_delete names reply image (GoingInto acc) = subst Ranked (sym (delete_leaves w names)) l
-  asks_delete names reply image (NotNamed place clear first) = l
-  asks_delete names reply image (CloneStands o clear named lowest) = l
-  asks_delete names reply image (RestoreStands o clear named no_clone lowest) = l
-  asks_delete names reply image (FullOfOps may new full) = l
-  asks_delete names reply image (DeleteFault acc) = ranks_falls w (asked_delete w names) l (subst Ranked (sym (delete_leaves w names)) l) _ (blobs_in image w.blobs)
-
-  -- ---- a cleanup that is asked
-
-  asks_cleanup : (reply : Reply) (image : Option Image) → CleanupAllows w reply → Ranked (after f w (moment 0 (AskStep Cleanup) reply image))
-  asks_cleanup reply image (OpeningCleanup acc) = l
-  asks_cleanup reply image (OpStands o clear lowest) = l
-  asks_cleanup reply image (TicketStands j none lowest) = l
-  asks_cleanup reply image (CleanupFault acc) = ranks_falls w (cleanup_opened w) l l _ (blobs_in image w.blobs)
-
-  -- ---- restores and reading
-
-  asks_restore : (name place : Bytes) (reply : Reply) (image : Option Image) → RestoreAllows f w name reply image → Ranked (answered f w 0 (AskStep (Restore name place)) reply image)
-  asks_restore name place reply image (OpeningRestore o uuid indices im acc) = l
-  asks_restore name place reply image (NotListed im none) = l
-  asks_restore name place reply image (NamedByDelete uuid d im listed named) = l
-  asks_restore name place reply image (FullOfRestores uuid im listed spared full) = l
+  -- ---- reading
 
   reads : (k : ℕ) (read : Read) (reply : Reply) (image : Option Image) → ReadAllows f w k read reply image → Ranked (answered f w k (ReadStep read) reply image)
   reads k read reply image (ReadFound j name im stored by found) = kept_aside Ranked w _ (aside_by f w j (ReadBlob name) WasFetched im tt) l
   reads k read reply image (ReadMissing j name im stored by none) = kept_aside Ranked w _ (aside_by f w j (ReadBlob name) WasAbsent im tt) l
-  reads k read reply image (ReadFault j name im stored by) = l
   reads k read reply image (RestoringShard j files bytes im q out done) = kept_aside Ranked w _ (aside_by f w j (RestoredShard files bytes) HasEnded im tt) l
   reads k read reply image (ReaderFailing j why im q out) = kept_aside Ranked w _ (aside_by f w j (ReadFails why) HasEnded im tt) l
-  reads k read reply image (CheckingAll snapshots blobs im checks) = l
-  reads k read reply image (CheckFailing why im looked) = l
+  reads k read reply image other = l
 
   test_left_ranked : (name : BlobName) (was now : Option Bytes) → Ranked (test_left w name was now)
   test_left_ranked name None (Some bytes) = l
-  test_left_ranked name None None = l
-  test_left_ranked name (Some was) now = l
+  test_left_ranked name was now = l
 
   verifies : (read : Read) (reply : Reply) (image : Option Image) → VerifyAllows f w read reply image → Ranked (answered f w 0 (ReadStep read) reply image)
-  verifies read reply image (DrawingTest im idle fits same) = l
-  verifies read reply image (TestSpent im idle spent same) = l
-  verifies read reply image (BeginningTest name im own same) = l
-  verifies read reply image (BeginTestFails name im own same) = l
-  verifies read reply image (CommittingTest name bytes im own new adds) = l
-  verifies read reply image (TestTaken name im own found) = l
   verifies read reply image (CommitTestFails name bytes im own leaves) = test_left_ranked name (fin.get w.blobs (f.names.text name)) (told_blob f im name)
-  verifies read reply image (RemovingTests names im may left) = l
-  verifies read reply image (RemoveTestsFails names im may left) = l
-  verifies read reply image (VerifyingAll im done same) = l
-  verifies read reply image (VerifyFailing why im begun same) = l
+  verifies read reply image other = l
 
   -- ---- each answer
 
   ranked_by : (who : ℕ) (step : Step) (reply : Reply) (image : Option Image) → Allows f size w who step reply image → Ranked (after f w (moment who step reply image))
-  ranked_by who step reply image (allowed.Accepting name indices time o im acc same) = l
-  ranked_by who step reply image (allowed.GivingNothing im none same) = l
   ranked_by who step reply image (allowed.Giving k o unit im is lowest g same) = gives o unit g
   ranked_by who step reply image (allowed.Drawing k n first im d same) = draws k n d.may.t d.may.out.there
-  ranked_by who step reply image (allowed.Beginning k name im c same) = l
-  ranked_by who step reply image (allowed.BeginningLatest k im c same) = l
   ranked_by who step reply image (allowed.Committing k name im c adds) = commits k c.t c.out.there name (told_blob f im name)
   ranked_by who step reply image (allowed.Finding k name im c found) = commits k c.t c.out.there name None
   ranked_by who step reply image (allowed.Replacing k im c named puts) = tries k c.t c.out.there
   ranked_by who step reply image (allowed.Fetching k name im g found) = fetches k g.t g.out.there name (told_blob f im name)
-  ranked_by who step reply image (allowed.Missing k name im g found) = l
   ranked_by who step reply image (allowed.Listing k from page im g shape here) = changes k g.t g.out.there (λ (t : Ticket). listing t page) (alike_listing g.t page)
   ranked_by who step reply image (allowed.Raising k n im r same) = raises k r.may
   ranked_by who step reply image (allowed.Settling k im s same) = settles_step k s
@@ -335,36 +276,23 @@ module _ (f : Formats) (size : ℕ) (w : World) (q : Tracked w) (l : Ranked w) w
   ranked_by who step reply image (allowed.Finishing k im c same) = changes k c.t c.out.there (λ (t : Ticket). record t { out = false }) (alike_ended c.t)
   ranked_by who step reply image (allowed.Dropping k im c same) = drops_step k im c
   ranked_by who step reply image (allowed.Electing im room same) = elects
-  ranked_by who step reply image (allowed.Looking im same) = l
-  ranked_by who step reply image (allowed.AskingRestore name place rep im h same) = asks_restore name place rep im h
-  ranked_by who step reply image (allowed.AskingClone source name names time taken rep im h same) = asks_clone source name names time taken rep im h
-  ranked_by who step reply image (allowed.AskingDelete names rep im h same) = asks_delete names rep im h
-  ranked_by who step reply image (allowed.AskingCleanup rep im h same) = asks_cleanup rep im h
+  ranked_by who step reply image (allowed.GoingInto names im acc same) = subst Ranked (sym (delete_leaves w names)) l
   ranked_by who step reply image (allowed.Reading k read rep im h same) = reads k read rep im h
   ranked_by who step reply image (allowed.Pruning k prune rep im h) = prunes k prune rep im h
   ranked_by who step reply image (allowed.Verifying read rep im h) = verifies read rep im h
-  ranked_by who step reply image (allowed.Cleaning c d x im recorded untaken there clean same) = l
-  ranked_by who step reply image (allowed.Used name indices time uuid im clear is same) = l
-  ranked_by who step reply image (allowed.Full name indices time im clear unused full same) = l
-  ranked_by who step reply image (allowed.AskSpent name indices time im clear unused room spent same) = l
-  ranked_by who step reply image (allowed.DrawSpent k n im may spent same) = l
-  ranked_by who step reply image (allowed.RaiseStale k im may apart same) = l
-  ranked_by who step reply image (allowed.SettleStale k n t s im may apart same) = l
-  ranked_by who step reply image (allowed.DropStale k im may apart same) = l
-  ranked_by who step reply image (allowed.RaiseSpent k im may present spent same) = l
-  ranked_by who step reply image (allowed.ElectSpent im spent same) = l
-  ranked_by who step reply image (allowed.Taken k name im c aside found) = l
+  ranked_by who step reply image (allowed.Ruled command refusal im (allowed.Cleaning c d x recorded untaken there clean) same) = l
   ranked_by who step reply image (allowed.BeginFails k name im c same) = subst (λ (b : Bool). Ranked (record (if b then tried w k else w) { blobs = blobs_in im w.blobs })) (sym (not_latest name c.named.1)) l
   ranked_by who step reply image (allowed.BeginLatestFails k im c same) = tries k c.t c.out.there
-  ranked_by who step reply image (allowed.CommitFails k name im c leaves) = l
   ranked_by who step reply image (allowed.ReplaceFails k im c named puts) = tries k c.t c.out.there
-  ranked_by who step reply image (allowed.FetchFails k name im g same) = l
-  ranked_by who step reply image (allowed.ListFails k from im g same) = l
   ranked_by who step reply image (allowed.AskFails name indices time im acc same) = ranks_falls w _ l l _ (blobs_in im w.blobs)
+  ranked_by who step reply image (allowed.AskCloneFails source name names time t im acc same) = ranks_falls w (clone_opened w name time t) l l _ (blobs_in im w.blobs)
+  ranked_by who step reply image (allowed.AskDeleteFails names im acc same) = ranks_falls w (asked_delete w names) l (subst Ranked (sym (delete_leaves w names)) l) _ (blobs_in im w.blobs)
+  ranked_by who step reply image (allowed.AskCleanupFails im acc same) = ranks_falls w (cleanup_opened w) l l _ (blobs_in im w.blobs)
   ranked_by who step reply image (allowed.RaiseFails k im r same) = ranks_falls w _ l (raises k r.may) _ (blobs_in im w.blobs)
   ranked_by who step reply image (allowed.SettleFails k im s same) = ranks_falls w _ l (settles_step k s) _ (blobs_in im w.blobs)
   ranked_by who step reply image (allowed.DropFails k im c same) = ranks_falls w _ l (drops_step k im c) _ (blobs_in im w.blobs)
   ranked_by who step reply image (allowed.ElectFails im room same) = ranks_falls w _ l elects _ (blobs_in im w.blobs)
+  ranked_by who step reply image other = l
 
 pub ranked_step : (f : Formats) (size : ℕ) (w : World) (m : Moment) → Tracked w → Ranked w → Allowed f size w m → Ranked (after f w m)
 ranked_step f size w m q l a = elim a.answered [

@@ -45,17 +45,15 @@ zipped (n ∷ names) (b ∷ parts) = (n, b) ∷ zipped names parts
 
 zipped_is : (has : BlobName → Bytes → Type 0) (names : List BlobName) (parts : List Bytes) → AllPairs has names parts → (n : BlobName) (b : Bytes) → Has (zipped names parts) (n, b) → has n b × Has names n
 unfolding zipped
-zipped_is has [] parts h n b m = absurd m
-zipped_is has (x ∷ names) [] h n b m = absurd m
 zipped_is has (x ∷ names) (y ∷ parts) h n b (inl e) = (subst (λ (p : BlobName × Bytes). has p.0 p.1) e h.0, inl (ap (λ (p : BlobName × Bytes). p.0) e))
 zipped_is has (x ∷ names) (y ∷ parts) h n b (inr m) = let r = zipped_is has names parts h.1 n b m in (r.0, inr r.1)
+zipped_is has names parts h n b m = absurd m
 
 zipped_all : (has : BlobName → Bytes → Type 0) (names : List BlobName) (parts : List Bytes) → AllPairs has names parts → AllPairs (λ (n : BlobName) (b : Bytes). Has (zipped names parts) (n, b)) names parts
 unfolding zipped
 zipped_all has [] [] h = tt
-zipped_all has [] (y ∷ parts) h = h
-zipped_all has (x ∷ names) [] h = h
 zipped_all has (x ∷ names) (y ∷ parts) h = (inl refl, AllPairs-map (λ n b m. inr m) names parts (zipped_all has names parts h.1))
+zipped_all has names parts h = h
 
 module _ (f : Formats) (has : BlobName → Bytes → Type 0) (index number : ℕ) where
   -- the parts of these files
@@ -67,19 +65,16 @@ module _ (f : Formats) (has : BlobName → Bytes → Type 0) (index number : ℕ
   needed_is : (es : List FileEntry) (files : List (Bytes × Bytes)) (h : AllPairs (λ (e : FileEntry) (file : Bytes × Bytes). (e.physical ≡ file.0) × FileStands f has index number e file.1) es files) (n : BlobName) (b : Bytes)
       → Has (needed es files h) (n, b) → has n b × ((e : FileEntry) × Has es e × Has (part_names index number e) n)
   unfolding needed
-  needed_is [] files h n b m = absurd m
-  needed_is (e ∷ es) [] h n b m = absurd m
   needed_is (e ∷ es) (y ∷ files) h n b m = elim (Has-either (zipped (part_names index number e) h.0.1.parts) (needed es files h.1) (n, b) m) [
     | inl z ↦ let r = zipped_is has (part_names index number e) h.0.1.parts h.0.1.there n b z in (r.0, (e, inl refl, r.1))
     | inr z ↦ let (there, (x, xm, part)) = needed_is es files h.1 n b z in (there, (x, inr xm, part))
   ]
+  needed_is es files h n b m = absurd m
 
   needed_all : (es : List FileEntry) (files : List (Bytes × Bytes)) (h : AllPairs (λ (e : FileEntry) (file : Bytes × Bytes). (e.physical ≡ file.0) × FileStands f has index number e file.1) es files)
       → AllPairs (FileStands f (λ n b. Has (needed es files h) (n, b)) index number) es (map (λ (file : Bytes × Bytes). file.1) files)
   unfolding needed
   needed_all [] [] h = tt
-  needed_all [] (y ∷ files) h = h
-  needed_all (e ∷ es) [] h = h
   needed_all (e ∷ es) (y ∷ files) h =
       let mine = zipped (part_names index number e) h.0.1.parts in
       let rest = needed es files h.1 in (
@@ -93,6 +88,7 @@ module _ (f : Formats) (has : BlobName → Bytes → Type 0) (index number : ℕ
         },
         AllPairs-map (λ x b s. file_kept f (λ n c. Has rest (n, c)) (λ n c. Has (mine ++ rest) (n, c)) (λ n c m. Has-right mine rest (n, c) m) index number x b s) es (map (λ (file : Bytes × Bytes). file.1) files) (needed_all es files h.1),
       )
+  needed_all es files h = h
 
 -- ---- the steps
 

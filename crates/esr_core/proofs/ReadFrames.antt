@@ -161,5 +161,4 @@ frame f w new shelf l (Merges m uuids n h) q =
 frame f w new shelf l (Pages m k page h) q = still f w m _ h.new_is refl refl (le_refl w.next_op) (le_refl w.next_ticket) refl refl refl
 frame f w new shelf l (Removing m k names h) q = blobbed f w m _ h.new_is refl refl (le_refl w.next_op) (le_refl w.next_ticket) refl refl (λ name a b x y. same_Some a b (sym x.0 ∙ h.removes.left (f.names.text name) b y.0))
 frame f w new shelf l (Tests m t) q = tested f w m t
-frame f w new shelf l (Deposes m v h e) q = absurd q
-frame f w new shelf l (Besides m v h r) q = absurd q
+frame f w new shelf l turn q = absurd q

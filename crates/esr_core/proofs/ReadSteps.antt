@@ -15,7 +15,7 @@ use Rattle.esr_core.specs.Past.{with_entry}
 use Rattle.esr_core.specs.Entry.{Restore, GivenRestore, Why, Read, ReadBlob, RestoredShard, ReadFails, Step, AskStep, TakeStep, LookStep, ReadStep, DepotFault, Reply, Gave, WasFetched, WasAbsent, HasEnded, Refused, Entry, Moment}
 use Rattle.esr_core.specs.After.{told_blob, taken_restore, taken_restore_shard, read_told, shard_over, read_over, read_by, is_heard, caller_told, caller_wrote, caller_by, caller_after, answered, blobs_in, after, test_left}
 use Rattle.esr_core.specs.Allowed as allowed
-use Rattle.esr_core.specs.Allowed.{GivesRestore, Fetcher, ByReader, ByCheck, RestoreAllows, OpeningRestore, NotListed, NamedByDelete, FullOfRestores, ReadAllows, ReadFound, ReadMissing, ReadFault, RestoringShard, ReaderFailing, CheckingAll, CheckFailing, Allows, Allowed, ByVerify, VerifyAllows, DrawingTest, TestSpent, BeginningTest, BeginTestFails, CommittingTest, TestTaken, CommitTestFails, RemovingTests, RemoveTestsFails, VerifyingAll, VerifyFailing}
+use Rattle.esr_core.specs.Allowed.{GivesRestore, Fetcher, ByReader, ByCheck, ReadAllows, ReadFound, ReadMissing, ReadFault, RestoringShard, ReaderFailing, Allows, Allowed, ByVerify, VerifyAllows, DrawingTest, TestSpent, CommittingTest, CommitTestFails, RemovingTests, VerifyingAll, VerifyFailing}
 use Rattle.esr_core.specs.History.{world_from, IsLegal}
 use Rattle.esr_core.specs.Tracked.{Tracked}
 use Rattle.esr_core.specs.ReadTracked.{RestoresTracked, ReadTracked, FetchesOnce}
@@ -163,12 +163,6 @@ module _ (f : Formats) (size : ℕ) (w : World) (t : Tracked w) (l : ReadTracked
 
   -- ---- each answer
 
-  asks : (name place : Bytes) (reply : Reply) (image : Option Image) → RestoreAllows f w name reply image → ReadTracked (answered f w 0 (AskStep (Restore name place)) reply image)
-  asks name place reply image (OpeningRestore o uuid indices im acc) = opens uuid place indices acc.indices_of.within.apart
-  asks name place reply image (NotListed im none) = l
-  asks name place reply image (NamedByDelete uuid d im listed named) = l
-  asks name place reply image (FullOfRestores uuid im listed spared full) = l
-
   read_found : (k : ℕ) (name : BlobName) (image : Option Image) → ReadTracked (read_by f w k (ReadBlob name) WasFetched image)
   read_found zero name image = l
   read_found (suc k) name image = told (suc k) name (told_blob f image name) (fin.get w.readers (suc k)) refl
@@ -188,11 +182,9 @@ module _ (f : Formats) (size : ℕ) (w : World) (t : Tracked w) (l : ReadTracked
   reads : (k : ℕ) (read : Read) (reply : Reply) (image : Option Image) → ReadAllows f w k read reply image → ReadTracked (answered f w k (ReadStep read) reply image)
   reads k read reply image (ReadFound j name im stored by found) = read_found j name im
   reads k read reply image (ReadMissing j name im stored by none) = read_missing j name im
-  reads k read reply image (ReadFault j name im stored by) = l
   reads k read reply image (RestoringShard j files bytes im q out done) = read_done j files bytes im
   reads k read reply image (ReaderFailing j why im q out) = read_failed j why im
-  reads k read reply image (CheckingAll snapshots blobs im checks) = l
-  reads k read reply image (CheckFailing why im looked) = l
+  reads k read reply image other = l
 
   -- a test blob that may be removed
   dooms : (name : BlobName) → ReadTracked (record w { doomed = name ∷ w.doomed })
@@ -200,26 +192,19 @@ module _ (f : Formats) (size : ℕ) (w : World) (t : Tracked w) (l : ReadTracked
 
   left_by : (name : BlobName) (was now : Option Bytes) → ReadTracked (test_left w name was now)
   left_by name None (Some bytes) = dooms name
-  left_by name None None = l
-  left_by name (Some was) now = l
+  left_by name was now = l
 
   verifies : (read : Read) (reply : Reply) (image : Option Image) → VerifyAllows f w read reply image → ReadTracked (answered f w 0 (ReadStep read) reply image)
   verifies read reply image (DrawingTest im idle fits same) =
       record { tracked = l.tracked; apart = record { ops = l.apart.ops; deletes = l.apart.deletes; tickets = l.apart.tickets }; once = l.once; drawn = λ v e. let b : v < w.next_id = l.drawn v e in omega (arith, b); doomed = l.doomed }
-  verifies read reply image (TestSpent im idle spent same) = l
-  verifies read reply image (BeginningTest name im own same) = l
-  verifies read reply image (BeginTestFails name im own same) = l
   verifies read reply image (CommittingTest name bytes im own new adds) = dooms name
-  verifies read reply image (TestTaken name im own found) = l
   verifies read reply image (CommitTestFails name bytes im own leaves) = left_by name (fin.get w.blobs (f.names.text name)) (told_blob f im name)
-  verifies read reply image (RemovingTests names im may left) = l
-  verifies read reply image (RemoveTestsFails names im may left) = l
-  verifies read reply image (VerifyingAll im done same) = l
-  verifies read reply image (VerifyFailing why im begun same) = l
+  verifies read reply image other = l
 
   restore_asked : (who : ℕ) (name place : Bytes) (reply : Reply) (image : Option Image) → Allows f size w who (AskStep (Restore name place)) reply image → ReadTracked (answered f w who (AskStep (Restore name place)) reply image)
-  restore_asked who name place reply image (allowed.AskingRestore n p rep im h same) = asks n p rep im h
-  restore_asked who name place reply image (allowed.Cleaning command d x im recorded untaken there clean same) = absurd (true≢false (sym recorded))
+  restore_asked who name place reply image (allowed.OpeningRestore n at o uuid indices im acc same) = opens uuid at indices acc.indices_of.within.apart
+  restore_asked who name place reply image (allowed.Ruled command refusal im (allowed.NotListed n at none) same) = l
+  restore_asked who name place reply image (allowed.Ruled command refusal im rule same) = l
 
   reading : (who : ℕ) (read : Read) (reply : Reply) (image : Option Image) → Allows f size w who (ReadStep read) reply image → ReadTracked (answered f w who (ReadStep read) reply image)
   reading who read reply image (allowed.Reading k r rep im h same) = reads k r rep im h
@@ -299,13 +284,11 @@ module _ (f : Formats) (size : ℕ) (w : World) (t : Tracked w) (l : ReadTracked
   heard_reads k read reply image (ReadFault j name im stored by) = failed j name im
   heard_reads k read reply image (RestoringShard j files bytes im q out done) = restored j files bytes im
   heard_reads k read reply image (ReaderFailing j why im q out) = failing j why im
-  heard_reads k read reply image (CheckingAll snapshots blobs im checks) = caller_none w false
-  heard_reads k read reply image (CheckFailing why im looked) = caller_none w false
+  heard_reads k read reply image other = caller_none w false
 
   left_caller : (name : BlobName) (was now : Option Bytes) → CallerTracked (test_left w name was now) (test_left w name was now).caller
   left_caller name None (Some bytes) = record { once = l.once; drawn = l.drawn; doomed = λ m has. inr (l.doomed m has) }
-  left_caller name None None = mine
-  left_caller name (Some was) now = mine
+  left_caller name was now = mine
 
   wrote_tracked : (name : BlobName) (bytes : Option Bytes) → CallerTracked (record w { doomed = name ∷ w.doomed }) (caller_wrote w.caller name bytes)
   wrote_tracked name None = record { once = record { fetched = l.once.fetched; found = l.once.found; from = l.once.from }; drawn = l.drawn; doomed = λ m has. elim has [ inl e ↦ inl e | inr was ↦ inr (l.doomed m was) ] }
@@ -315,15 +298,12 @@ module _ (f : Formats) (size : ℕ) (w : World) (t : Tracked w) (l : ReadTracked
   heard_verifies read reply image (DrawingTest im idle fits same) =
       record { once = record { fetched = l.once.fetched; found = l.once.found; from = l.once.from }; drawn = λ v e. let same_id : w.next_id ≡ v = some_drawn e in omega (arith, same_id); doomed = l.doomed }
   heard_verifies read reply image (TestSpent im idle spent same) = record { once = record { fetched = l.once.fetched; found = l.once.found; from = l.once.from }; drawn = l.drawn; doomed = l.doomed }
-  heard_verifies read reply image (BeginningTest name im own same) = mine
-  heard_verifies read reply image (BeginTestFails name im own same) = mine
   heard_verifies read reply image (CommittingTest name bytes im own new adds) = wrote_tracked name (told_blob f im name)
-  heard_verifies read reply image (TestTaken name im own there) = mine
   heard_verifies read reply image (CommitTestFails name bytes im own leaves) = left_caller name (fin.get w.blobs (f.names.text name)) (told_blob f im name)
   heard_verifies read reply image (RemovingTests names im may left) = record { once = record { fetched = l.once.fetched; found = l.once.found; from = l.once.from }; drawn = l.drawn; doomed = l.doomed }
-  heard_verifies read reply image (RemoveTestsFails names im may left) = mine
   heard_verifies read reply image (VerifyingAll im done same) = caller_none w false
   heard_verifies read reply image (VerifyFailing why im begun same) = caller_none w false
+  heard_verifies read reply image other = mine
 
   heard_read : (who : ℕ) (read : Read) (reply : Reply) (image : Option Image) → Allows f size w who (ReadStep read) reply image → Heard who read reply image
   heard_read who read reply image (allowed.Reading k r rep im h same) = heard_reads k r rep im h
@@ -379,5 +359,4 @@ restore_ready w o r l there idle =
     ready : (s : RestoreShard) → Has r.shards s → (state : ReadState) → s.state ≡ state → waits state ≡ true → AnyReady w
     ready s m Unread is waiting = ARestore o r s (record { there = there; s_there = m; unread = is })
     ready s m (BeingRead k) is waiting = let h = l.tracked.held o r s k there m is in absurd (idle k h.q h.there h.out h.op_is)
-    ready s m (Restored files bytes) is waiting = absurd (true≢false (sym waiting))
-    ready s m (NotRestored why) is waiting = absurd (true≢false (sym waiting))
+    ready s m state is waiting = absurd (true≢false (sym waiting))

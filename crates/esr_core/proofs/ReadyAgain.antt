@@ -68,8 +68,7 @@ same_work w = record { ops = refl; deletes = refl; completed = refl; restores = 
 
 same_left : (w : World) (name : BlobName) (was now : Option Bytes) → SameWork w (test_left w name was now)
 same_left w name None (Some bytes) = record { ops = refl; deletes = refl; completed = refl; restores = refl }
-same_left w name None None = same_work w
-same_left w name (Some was) now = same_work w
+same_left w name was now = same_work w
 
 module _ (f : Formats) (w : World) where
   same_elected : (reply : Reply) (image : Option Image) → SameWork w (done_step f w 0 ElectStep reply image)

@@ -12,7 +12,7 @@ use Rattle.esr_model.specs.Image.{Image}
 use Rattle.esr_core.specs.World.{World, Op, Deletion, ShardWork, Done, Ticket, marked, work_by, work_of, deletion_work, record_ops, ledger_of, record_of}
 use Rattle.esr_core.specs.Steps.{listing, with_ticket, given}
 use Rattle.esr_core.specs.Turns.{fails}
-use Rattle.esr_core.specs.Entry.{Given, GivenShard, GivenClone, GivenFinalize, GivenDrop, Step, AskStep, TakeStep, ListStep, WasListed, DrawStep, BeginStep, CommitStep, LatestStep, FetchStep, RaiseStep, SettleStep, DoneStep, FailedStep, FinishStep, DroppedStep, ElectStep, DepotFault, Reply, Gave, WasDone, WasThere, WasFetched, Refused, Moment, Snapshot, Restore, GivenRestore, ReadStep, AcceptedRestore, Read, DrawTest, CommitTest, DrawnFrom, Clone, DeleteSnapshots, Cleanup, GivenDelete, GivenCleanup, Prune, FetchShard, PlanShards, SettlePruned, RemoveDoomed, EndDelete, DeleteFails, PruneStep}
+use Rattle.esr_core.specs.Entry.{Given, GivenShard, GivenClone, GivenFinalize, Step, AskStep, TakeStep, ListStep, WasListed, DrawStep, BeginStep, CommitStep, LatestStep, FetchStep, RaiseStep, SettleStep, DoneStep, FailedStep, FinishStep, DroppedStep, ElectStep, DepotFault, Reply, Gave, WasDone, WasThere, WasFetched, Refused, Moment, Restore, GivenRestore, ReadStep, AcceptedRestore, Read, DrawTest, CommitTest, DrawnFrom, Prune, FetchShard, PlanShards, SettlePruned, EndDelete, DeleteFails, PruneStep}
 use Rattle.esr_core.specs.After.{or_else, taken_shard, taken_by, shard_of, with_given, committing, told_blob, fetching, done_by, done_of, is_stale, failed_by, failed_of, done_step, swaps_record, is_latest, faulted, answered, after, read_by, test_left, delete_failed_by, delete_failed, prune_step}
 use Rattle.esr_core.specs.Laws.Asides.{Aside, aside_step}
 use Rattle.esr_core.proofs.Besides.{aside_taken}
@@ -119,12 +119,9 @@ keeps_taken f w o (GivenShard index number base) (Some op) there = keeps_shard w
 keeps_taken f w o (GivenShard index number base) None there = keeps_same w
 keeps_taken f w o (GivenClone index number source base) (Some op) there = keeps_shard w o op base (shard_of op.shards index number) there
 keeps_taken f w o (GivenClone index number source base) None there = keeps_same w
-keeps_taken f w o (GivenFinalize info results) (Some op) there = record { ledger = refl; deletes = λ q. refl; ops = λ q. refl }
 keeps_taken f w o (GivenFinalize info results) None there = keeps_same w
-keeps_taken f w o GivenDrop op there = record { ledger = refl; deletes = λ q. refl; ops = λ q. refl }
 keeps_taken f w o (GivenRestore index number uuid) op there = keeps_aside w _ (aside_taken w o index number (fin.get w.restores o))
-keeps_taken f w o (GivenDelete uuids) op there = record { ledger = refl; deletes = λ q. refl; ops = λ q. refl }
-keeps_taken f w o GivenCleanup op there = record { ledger = refl; deletes = λ q. refl; ops = λ q. refl }
+keeps_taken f w o unit op there = record { ledger = refl; deletes = λ q. refl; ops = λ q. refl }
 
 keeps_done_by : (w : World) (k : ℕ) (r : ShardResult) (t : Ticket) (op : Option Op) → fin.get w.ops t.op ≡ op → Keeps w (done_by w k r t op)
 keeps_done_by w k r t None there = keeps_same w
@@ -160,8 +157,7 @@ keeps_read f w (suc k) read reply image = keeps_aside w _ (aside_step f w (suc k
 
 keeps_left : (w : World) (name : BlobName) (was now : Option Bytes) → Keeps w (test_left w name was now)
 keeps_left w name None (Some bytes) = record { ledger = refl; deletes = λ q. refl; ops = λ q. refl }
-keeps_left w name None None = keeps_same w
-keeps_left w name (Some was) now = keeps_same w
+keeps_left w name was now = keeps_same w
 
 keeps_delete_failed_by : (w : World) (k : ℕ) (t : Ticket) (x : Option Deletion) → fin.get w.deletes t.op ≡ x → Keeps w (delete_failed_by w k t x)
 keeps_delete_failed_by w k t None there = keeps_same w
@@ -175,19 +171,16 @@ keeps_delete_failed w k (Some t) =
 
 keeps_prune : (f : Formats) (w : World) (k : ℕ) (prune : Prune) (reply : Reply) (image : Option Image) → swaps_record (PruneStep prune) ≡ false → Keeps w (prune_step f w k prune reply image)
 keeps_prune f w k (FetchShard name) WasFetched image e = keeps_change w k (fetching name (told_blob f image name)) (fin.get w.tickets k)
-keeps_prune f w k (FetchShard name) reply image e = keeps_same w
 keeps_prune f w k (PlanShards shards) reply image e = keeps_drawn w k (kept_count shards) (planned f shards w.next_id) (fin.get w.tickets k)
 keeps_prune f w k SettlePruned reply image e = absurd (true≢false e)
-keeps_prune f w k (RemoveDoomed names) reply image e = keeps_same w
 keeps_prune f w k EndDelete reply image e = keeps_change w k (λ t. record t { out = false }) (fin.get w.tickets k)
 keeps_prune f w k (DeleteFails why) reply image e = keeps_delete_failed w k (fin.get w.tickets k)
+keeps_prune f w k prune reply image e = keeps_same w
 
 keeps_step : (f : Formats) (w : World) (k : ℕ) (step : Step) (reply : Reply) (image : Option Image) → swaps_record step ≡ false → Keeps w (done_step f w k step reply image)
-keeps_step f w k (AskStep (Snapshot name indices moment)) reply image e = absurd (true≢false e)
-keeps_step f w k (AskStep (Clone source name indices moment taken)) reply image e = absurd (true≢false e)
-keeps_step f w k (AskStep (DeleteSnapshots names)) reply image e = absurd (true≢false e)
-keeps_step f w k (AskStep Cleanup) reply image e = absurd (true≢false e)
 keeps_step f w k (AskStep (Restore name place)) (AcceptedRestore o uuid indices) image e = record { ledger = refl; deletes = λ q. refl; ops = λ q. refl }
+keeps_step f w k (AskStep (Restore name place)) reply image e = keeps_same w
+keeps_step f w k (AskStep command) reply image e = absurd (true≢false e)
 keeps_step f w k (ReadStep read) reply image e = keeps_read f w k read reply image
 keeps_step f w k (PruneStep prune) reply image e = keeps_prune f w k prune reply image e
 keeps_step f w k RaiseStep reply image e = absurd (true≢false e)
@@ -209,10 +202,8 @@ keeps_step f w k step reply image e = keeps_same w
 keeps_fault : (f : Formats) (w : World) (k : ℕ) (step : Step) (image : Option Image) → swaps_record step ≡ false → Keeps w (faulted f w k step image)
 keeps_fault f w k LatestStep image e = keeps_change w k (λ t. record t { tried_latest = true }) (fin.get w.tickets k)
 keeps_fault f w k (BeginStep name) image e = keeps_either w _ w (is_latest name) (keeps_change w k (λ t. record t { tried_latest = true }) (fin.get w.tickets k)) (keeps_same w)
-keeps_fault f w k (AskStep (Snapshot name indices moment)) image e = absurd (true≢false e)
-keeps_fault f w k (AskStep (Clone source name indices moment taken)) image e = absurd (true≢false e)
-keeps_fault f w k (AskStep (DeleteSnapshots names)) image e = absurd (true≢false e)
-keeps_fault f w k (AskStep Cleanup) image e = absurd (true≢false e)
+keeps_fault f w k (AskStep (Restore name place)) image e = keeps_same w
+keeps_fault f w k (AskStep command) image e = absurd (true≢false e)
 keeps_fault f w k RaiseStep image e = absurd (true≢false e)
 keeps_fault f w k SettleStep image e = absurd (true≢false e)
 keeps_fault f w k DroppedStep image e = absurd (true≢false e)

@@ -8,44 +8,25 @@ use Rattle.esr_model.specs.Image.{Image}
 use Rattle.esr_core.specs.World.{World, Op, ShardWork, ReadState, RestoreShard, Restoring, Reader, Ticket, Swap, swap, Deletion}
 use Rattle.esr_core.specs.Restores.{restore_shard}
 use Rattle.esr_core.specs.Steps.{with_ticket}
-use Rattle.esr_core.specs.Entry.{CloneOf, Asked, Snapshot, Clone, DeleteSnapshots, Restore, Cleanup, Given, GivenShard, GivenClone, GivenFinalize, GivenDrop, GivenRestore, Read, ReadBlob, RestoredShard, DrawTest, CommitTest, ReadFails, Step, AskStep, TakeStep, ListStep, WasListed, DrawStep, BeginStep, CommitStep, LatestStep, FetchStep, RaiseStep, SettleStep, DoneStep, FailedStep, FinishStep, DroppedStep, ElectStep, ReadStep, Refusal, DepotFault, Reply, Gave, DrawnFrom, WasDone, WasThere, WasFetched, HasEnded, Refused, AcceptedRestore, Moment, Prune, FetchShard, PlanShards, SettlePruned, RemoveDoomed, EndDelete, DeleteFails, PruneStep}
+use Rattle.esr_core.specs.Entry.{CloneOf, Asked, Snapshot, Clone, DeleteSnapshots, Restore, Given, GivenShard, GivenClone, GivenFinalize, GivenRestore, Read, ReadBlob, RestoredShard, DrawTest, CommitTest, ReadFails, Step, AskStep, TakeStep, ListStep, WasListed, DrawStep, BeginStep, CommitStep, LatestStep, FetchStep, RaiseStep, SettleStep, DoneStep, FailedStep, FinishStep, DroppedStep, ElectStep, ReadStep, Refusal, DepotFault, Reply, Gave, DrawnFrom, WasDone, WasThere, WasFetched, HasEnded, Refused, AcceptedRestore, Moment, Prune, FetchShard, PlanShards, SettlePruned, RemoveDoomed, EndDelete, DeleteFails, PruneStep, CleanupRunning, Cleanup}
 use Rattle.esr_core.specs.After.{asked, shard_of, taken_shard, taken_restore_shard, taken_restore, taken_by, with_given, change, told_blob, settled_by, settled_of, done_by, done_of, is_stale, failed_by, failed_of, dropped_of, read_told, shard_over, read_over, read_step, read_by, done_step, swaps_record, fallen, is_latest, tried, test_left, faulted, answered, after, delete_settled_by, delete_settled, delete_failed_by, delete_failed, prune_step}
 use Rattle.esr_core.specs.Pruning.{planned}
 use Rattle.esr_core.specs.Allowed as allowed
-use Rattle.esr_core.specs.Allowed.{RestoreAllows, CloneAllows, DeleteAllows, CleanupAllows, ReadAllows, VerifyAllows, PruneAllows, Allows, Blocks, Allowed}
+use Rattle.esr_core.specs.Allowed.{ReadAllows, VerifyAllows, PruneAllows, Allows, Blocks, Allowed, RefusedBy}
 use Rattle.esr_core.specs.History.{world_from}
-use Rattle.esr_core.specs.Refusing.{MayRefuse, InCleanup, InUse, InFull, NoIdForAsk, AskFault, CloneInUse, NoSource, SourceInDelete, NoSuchIndex, CloneInFull, NoIdForClone, AskCloneFault, NotNamed, CloneStands, RestoreStands, FullOfOps, AskDeleteFault, OpStands, TicketStands, AskCleanupFault, NotListed, NamedByDelete, FullOfRestores, NoIds, BeginFault, CommitFault, CommitTaken, LatestFault, FetchFault, ListFault, RaiseFault, RaiseStale, RaiseSpent, SettleFault, SettleStale, DropFault, DropStale, ElectFault, NoTerms, ReadFault, NoTestId, BeginTestFault, CommitTestFault, TestTaken, RemoveFault, RefusedSo, SwapFailed, FetchShardFault, NoPlanIds, SettleDeleteFault, SettleDeleteStale, RemoveDoomedFault}
+use Rattle.esr_core.specs.Refusing.{MayRefuse, NoIdForAsk, AskFault, NoIdForClone, TicketStands, NoIds, BeginFault, CommitFault, CommitTaken, LatestFault, FetchFault, ListFault, RaiseFault, RaiseStale, RaiseSpent, SettleFault, SettleStale, DropFault, DropStale, ElectFault, NoTerms, ReadFault, NoTestId, BeginTestFault, CommitTestFault, TestTaken, RemoveFault, RefusedSo, SwapFailed, FetchShardFault, NoPlanIds, SettleDeleteFault, SettleDeleteStale, RemoveDoomedFault, ByRule}
 use Rattle.esr_core.specs.Laws.DeleteAsks.{delete_leaves}
+use Rattle.esr_core.specs.Laws.Rules.{of_cleanup}
 
 -- ---- refusals
 
 module _ (f : Formats) (size : ℕ) (w : World) where
-  restore_refused : (name place : Bytes) (refusal : Refusal) (image : Option Image) → RestoreAllows f w name (Refused refusal) image → MayRefuse (AskStep (Restore name place)) refusal
-  restore_refused name place refusal image (allowed.NotListed im none) = NotListed name place
-  restore_refused name place refusal image (allowed.NamedByDelete uuid d im listed named) = NamedByDelete name place d
-  restore_refused name place refusal image (allowed.FullOfRestores uuid im listed spared full) = FullOfRestores name place
-
-  clone_refused : (source name : Bytes) (names : List Bytes) (moment : ℕ) (taken : Option CloneOf) (refusal : Refusal) (image : Option Image) → CloneAllows f w source name names moment taken (Refused refusal) image
-      → MayRefuse (AskStep (Clone source name names moment taken)) refusal
-  clone_refused source name names moment taken refusal image (allowed.CloneUsed uuid im clear is) = CloneInUse source name names moment uuid None
-  clone_refused source name names moment taken refusal image (allowed.SourceNotListed im may none) = NoSource source name names moment None
-  clone_refused source name names moment taken refusal image (allowed.SourceDeleted uuid d im may listed named) = SourceInDelete source name names moment d None
-  clone_refused source name names moment taken refusal image (allowed.IndexMissing uuid place im may missing) = NoSuchIndex source name names moment place None
-  clone_refused source name names moment taken refusal image (allowed.FullOfClones uuid im may full) = CloneInFull source name names moment None
-  clone_refused source name names moment taken refusal image (allowed.CloneSpent uuid im may room spent) = NoIdForClone source name names moment w.next_id None
-  clone_refused source name names moment taken refusal image (allowed.CloneFault t im acc) = AskCloneFault source name names moment (Some t)
-
-  delete_refused : (names : List Bytes) (refusal : Refusal) → DeleteAllows w names (Refused refusal) → MayRefuse (AskStep (DeleteSnapshots names)) refusal
-  delete_refused names refusal (allowed.NotNamed place clear first) = NotNamed names place
-  delete_refused names refusal (allowed.CloneStands o clear named lowest) = CloneStands names o
-  delete_refused names refusal (allowed.RestoreStands o clear named no_clone lowest) = RestoreStands names o
-  delete_refused names refusal (allowed.FullOfOps may new full) = FullOfOps names
-  delete_refused names refusal (allowed.DeleteFault acc) = AskDeleteFault names
-
-  cleanup_refused : (refusal : Refusal) → CleanupAllows w (Refused refusal) → MayRefuse (AskStep Cleanup) refusal
-  cleanup_refused refusal (allowed.OpStands o clear lowest) = OpStands o
-  cleanup_refused refusal (allowed.TicketStands k none lowest) = TicketStands k
-  cleanup_refused refusal (allowed.CleanupFault acc) = AskCleanupFault
+  rule_refuses : (command : Asked) (refusal : Refusal) → RefusedBy w command refusal → MayRefuse (AskStep command) refusal
+  rule_refuses command refusal (allowed.Cleaning c d x recorded untaken there clean) = ByRule c (CleanupRunning d) (of_cleanup c d recorded)
+  rule_refuses command refusal (allowed.AskSpent name indices moment clear unused room spent) = NoIdForAsk name indices moment w.next_id
+  rule_refuses command refusal (allowed.CloneSpent source name names moment uuid may room spent) = NoIdForClone source name names moment w.next_id None
+  rule_refuses command refusal (allowed.TicketStands k none lowest) = TicketStands k
+  rule_refuses command refusal rule = ByRule command refusal tt
 
   read_refused : (k : ℕ) (read : Read) (refusal : Refusal) (image : Option Image) → ReadAllows f w k read (Refused refusal) image → MayRefuse (ReadStep read) refusal
   read_refused k read refusal image (allowed.ReadFault j name im stored by) = ReadFault name
@@ -65,17 +46,10 @@ module _ (f : Formats) (size : ℕ) (w : World) where
   prune_refused who prune refusal image (allowed.RemoveDoomedFails k names im r removes) = RemoveDoomedFault names
 
   refused_by : (who : ℕ) (step : Step) (refusal : Refusal) (image : Option Image) → Allows f size w who step (Refused refusal) image → MayRefuse step refusal
-  refused_by who step refusal image (allowed.AskingRestore name place rep im h same) = restore_refused name place refusal image h
-  refused_by who step refusal image (allowed.AskingClone source name names moment taken rep im h same) = clone_refused source name names moment taken refusal image h
-  refused_by who step refusal image (allowed.AskingDelete names rep im h same) = delete_refused names refusal h
-  refused_by who step refusal image (allowed.AskingCleanup rep im h same) = cleanup_refused refusal h
   refused_by who step refusal image (allowed.Verifying read rep im h) = verify_refused read refusal image h
   refused_by who step refusal image (allowed.Pruning k prune rep im h) = prune_refused k prune refusal image h
   refused_by who step refusal image (allowed.Reading k read rep im h same) = read_refused k read refusal image h
-  refused_by who step refusal image (allowed.Cleaning command d x im recorded untaken there clean same) = InCleanup command d recorded
-  refused_by who step refusal image (allowed.Used name indices moment uuid im clear is same) = InUse name indices moment uuid
-  refused_by who step refusal image (allowed.Full name indices moment im clear unused full same) = InFull name indices moment
-  refused_by who step refusal image (allowed.AskSpent name indices moment im clear unused room spent same) = NoIdForAsk name indices moment w.next_id
+  refused_by who step refusal image (allowed.Ruled command r im rule same) = rule_refuses command refusal rule
   refused_by who step refusal image (allowed.DrawSpent k n im may spent same) = NoIds n w.next_id
   refused_by who step refusal image (allowed.RaiseStale k im may apart same) = RaiseStale may.t.term w.term
   refused_by who step refusal image (allowed.SettleStale k n t s im may apart same) = SettleStale t.term w.term
@@ -89,7 +63,10 @@ module _ (f : Formats) (size : ℕ) (w : World) where
   refused_by who step refusal image (allowed.ReplaceFails k im p back leaves) = LatestFault
   refused_by who step refusal image (allowed.FetchFails k name im g same) = FetchFault name
   refused_by who step refusal image (allowed.ListFails k from im g same) = ListFault from
-  refused_by who step refusal image (allowed.AskFails name indices moment im acc same) = AskFault name indices moment
+  refused_by who step refusal image (allowed.AskFails name indices moment im acc same) = AskFault (Snapshot name indices moment) refl
+  refused_by who step refusal image (allowed.AskCloneFails source name names moment taken im acc same) = AskFault (Clone source name names moment (Some taken)) refl
+  refused_by who step refusal image (allowed.AskDeleteFails names im acc same) = AskFault (DeleteSnapshots names) refl
+  refused_by who step refusal image (allowed.AskCleanupFails im acc same) = AskFault Cleanup refl
   refused_by who step refusal image (allowed.RaiseFails k im r same) = RaiseFault
   refused_by who step refusal image (allowed.SettleFails k im s same) = SettleFault
   refused_by who step refusal image (allowed.DropFails k im d same) = DropFault
@@ -128,19 +105,14 @@ module _ (f : Formats) (w : World) where
 
   taken_mark : (o : ℕ) (unit : Given) (op : Option Op) → (taken_by f w o unit op).deposed ≡ w.deposed
   taken_mark o (GivenShard index number base) (Some op) = taken_shard_mark o op base (shard_of op.shards index number)
-  taken_mark o (GivenShard index number base) None = refl
   taken_mark o (GivenClone index number source base) (Some op) = taken_shard_mark o op base (shard_of op.shards index number)
-  taken_mark o (GivenClone index number source base) None = refl
   taken_mark o (GivenFinalize info results) (Some op) = refl
-  taken_mark o (GivenFinalize info results) None = refl
-  taken_mark o GivenDrop op = refl
   taken_mark o (GivenRestore index number uuid) op = taken_restore_mark o index number (fin.get w.restores o)
   taken_mark o unit op = refl
 
   settled_by_mark : (k : ℕ) (t : Ticket) (s : Option Swap) (n : Option ℕ) → (settled_by f w k t s n).deposed ≡ w.deposed
   settled_by_mark k t (Some s) (Some n) = refl
-  settled_by_mark k t (Some s) None = refl
-  settled_by_mark k t None n = refl
+  settled_by_mark k t s n = refl
 
   settled_mark : (k : ℕ) (o : Option Ticket) → (settled_of f w k o).deposed ≡ w.deposed
   settled_mark k None = refl
@@ -197,8 +169,7 @@ module _ (f : Formats) (w : World) where
 
   delete_settled_by_mark : (k : ℕ) (t : Ticket) (s : Option Swap) (n : Option ℕ) → (delete_settled_by f w k t s n).deposed ≡ w.deposed
   delete_settled_by_mark k t (Some s) (Some n) = refl
-  delete_settled_by_mark k t (Some s) None = refl
-  delete_settled_by_mark k t None n = refl
+  delete_settled_by_mark k t s n = refl
 
   delete_settled_mark : (k : ℕ) (o : Option Ticket) → (delete_settled f w k o).deposed ≡ w.deposed
   delete_settled_mark k None = refl
@@ -218,23 +189,20 @@ module _ (f : Formats) (w : World) where
 
   prune_mark : (k : ℕ) (prune : Prune) (reply : Reply) (image : Option Image) → (prune_step f w k prune reply image).deposed ≡ w.deposed
   prune_mark k (FetchShard name) WasFetched image = change_mark k _
-  prune_mark k (FetchShard name) reply image = refl
   prune_mark k (PlanShards shards) reply image = change_mark k (planned f shards w.next_id)
   prune_mark k SettlePruned reply image = delete_settled_mark k (fin.get w.tickets k)
-  prune_mark k (RemoveDoomed names) reply image = refl
   prune_mark k EndDelete reply image = change_mark k _
   prune_mark k (DeleteFails why) reply image = delete_failed_mark k (fin.get w.tickets k)
+  prune_mark k prune reply image = refl
 
   asked_clone_mark : (source name : Bytes) (names : List Bytes) (moment : ℕ) (taken : Option CloneOf) → (asked w (Clone source name names moment taken)).deposed ≡ w.deposed
   asked_clone_mark source name names moment None = refl
   asked_clone_mark source name names moment (Some t) = refl
 
   step_mark : (k : ℕ) (step : Step) (reply : Reply) (image : Option Image) → (done_step f w k step reply image).deposed ≡ w.deposed
-  step_mark k (AskStep (Snapshot name indices moment)) reply image = refl
   step_mark k (AskStep (Clone source name names moment taken)) reply image = asked_clone_mark source name names moment taken
   step_mark k (AskStep (Restore name place)) (AcceptedRestore o uuid indices) image = refl
   step_mark k (AskStep (DeleteSnapshots names)) reply image = ap (λ (x : World). x.deposed) (delete_leaves w names)
-  step_mark k (AskStep command) reply image = refl
   step_mark k TakeStep (Gave ticket op unit) image = taken_mark op unit (fin.get w.ops op)
   step_mark k (ListStep from) (WasListed page) image = change_mark k _
   step_mark k (DrawStep n) reply image = change_mark k (λ t. record t { first = w.next_id; drawn = n })
@@ -258,8 +226,7 @@ module _ (f : Formats) (w : World) where
 
   test_mark : (name : BlobName) (was now : Option Bytes) → (test_left w name was now).deposed ≡ w.deposed
   test_mark name None (Some bytes) = refl
-  test_mark name None None = refl
-  test_mark name (Some was) now = refl
+  test_mark name was now = refl
 
   -- a call that failed: a record swap, or the mark stays
   abbrev Marks : World → Step → Type 0

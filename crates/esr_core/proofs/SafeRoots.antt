@@ -1,12 +1,12 @@
 -- Over any container no step takes the safe root back, by the order of generations alone; so a settle that was answered stays.
-use Rattle.std.proofs.Common.{◌≡◌, ◌⊎◌, ℕ, suc, ◌≤◌, List, [], ◌∷◌, ◌++◌, Bool, true, false, true≢false, Option, Some, None, refl, sym, ap, ◌∙◌, subst, inl, inr, arith}
+use Rattle.std.proofs.Common.{◌≡◌, ◌⊎◌, ℕ, suc, ◌≤◌, List, [], ◌∷◌, ◌++◌, Bool, true, false, true≢false, Option, Some, refl, sym, ap, ◌∙◌, subst, inl, inr, arith}
 use Rattle.std.specs.Prelude.{if◌then◌else◌}
 use Rattle.std.specs.FinMap as fin
 use Rattle.std.proofs.lemmas.Option.{same_Some}
 use Rattle.esr_model.specs.Values.{ClusterRecord, ReadsBack, Formats}
 use Rattle.esr_model.specs.Image.{Image}
 use Rattle.esr_core.specs.World.{World, Ticket, record_of}
-use Rattle.esr_core.specs.Entry.{Snapshot, Step, AskStep, RaiseStep, SettleStep, DroppedStep, ElectStep, DepotFault, Reply, WasSettled, Refused, Moment, SettlePruned, PruneStep}
+use Rattle.esr_core.specs.Entry.{Step, AskStep, RaiseStep, SettleStep, DroppedStep, ElectStep, DepotFault, Reply, WasSettled, Refused, Moment, SettlePruned, PruneStep}
 use Rattle.esr_core.specs.Entry as entry
 use Rattle.esr_core.specs.After.{swaps_record, raised, settled_of, has_text, done_step, answered, after, delete_settled}
 use Rattle.esr_core.specs.Allowed as allowed
@@ -15,24 +15,19 @@ use Rattle.esr_core.specs.History.{world_from, IsLegal, is_settle}
 use Rattle.esr_core.specs.Left.{cut_off, Leaves, safe_in}
 use Rattle.esr_core.specs.Ranked.{Ranked}
 use Rattle.esr_core.specs.Tracked.{Tracked}
-use Rattle.esr_core.specs.Laws.DeleteAsks.{delete_leaves}
 use Rattle.esr_core.specs.Laws.Moments.{moment, settled_plain, delete_settled_plain}
 use Rattle.esr_core.specs.Laws.Asides.{blocked_stays}
 use Rattle.esr_core.specs.Laws.Histories.{legal_parts}
 use Rattle.esr_core.proofs.Recording.{record_stays}
 use Rattle.esr_core.proofs.TrackingSteps.{tracked_step, tracked_history}
 use Rattle.esr_core.proofs.Ranking.{ranked_step, ranked_history}
-use Rattle.esr_core.proofs.Left.{given_safe, dropped_safe, fault_safe, safe_now, safe_cut, which, no_answer, settled_safe, allows_pruned}
+use Rattle.esr_core.proofs.Left.{given_safe, dropped_safe, fault_safe, safe_now, safe_cut, which, no_answer, settled_safe, allows_pruned, asked_safe}
 
 -- ---- a step that swaps the record and is no settle leaves the safe root
 
 done_safe : (f : Formats) (w : World) (k : ℕ) (step : Step) (reply : Reply) (image : Option Image) → swaps_record step ≡ true → is_settle step ≡ false → (done_step f w k step reply image).safe ≡ w.safe
-done_safe f w k (AskStep (Snapshot name indices time)) reply image s e = refl
-done_safe f w k (AskStep (entry.Clone source name indices time None)) reply image s e = refl
-done_safe f w k (AskStep (entry.Clone source name indices time (Some taken))) reply image s e = refl
-done_safe f w k (AskStep (entry.DeleteSnapshots names)) reply image s e = ap (λ (x : World). x.safe) (delete_leaves w names)
 done_safe f w k (AskStep (entry.Restore name place)) reply image s e = absurd (true≢false (sym s))
-done_safe f w k (AskStep entry.Cleanup) reply image s e = refl
+done_safe f w k (AskStep command) reply image s e = asked_safe w command
 done_safe f w k RaiseStep reply image s e = given_safe w k (λ t. record t { raised = Some w.pending }) (fin.get w.tickets k)
 done_safe f w k SettleStep reply image s e = absurd (true≢false e)
 done_safe f w k DroppedStep reply image s e = dropped_safe w k (fin.get w.tickets k)

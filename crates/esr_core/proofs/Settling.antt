@@ -8,7 +8,7 @@ use Rattle.std.proofs.lemmas.Option.{same_Some, none-some}
 use Rattle.esr_core.specs.Laws.NumberMaps.{was_in, left_in}
 use Rattle.esr_model.specs.Parts.{part_names}
 use Rattle.esr_model.specs.Names.{BlobName, Root, ShardIndex, File, Part}
-use Rattle.esr_model.specs.Reach.{Reached, ReachSnap, ReachMeta, ReachIndexMeta, ReachIndex, ReachShardSnap, ReachPart}
+use Rattle.esr_model.specs.Reach.{Reached, ReachPart}
 use Rattle.esr_model.specs.Values.{RootSnap, RootData, SnapInfo, FileEntry, ShardFiles, ShardResult, Formats}
 use Rattle.esr_model.specs.Shelf.{Shelved, Command, shelf_after, names_uuid}
 use Rattle.esr_model.specs.Image.{Has, Generation, RootStands, RootIs}
@@ -38,10 +38,9 @@ pub like_settled : (t : Ticket) → Like t (record t { settled = true })
 like_settled t = record { op = refl; term = refl; out = λ e. e; settled = λ e. absurd (true≢false e); master = λ m. m; shard = λ s. s; drop = λ d. d }
 
 pub swap_master : (f : Formats) (work : Work) (root : RootData) (s : Swap) → swap_of f work root ≡ Some s → IsMaster work
-swap_master f (Shard i n) root s e = absurd (none-some s e)
 swap_master f (Finalize info rs made) root s e = tt
 swap_master f (Deleting uuids plan) root s e = tt
-swap_master f Drop root s e = absurd (none-some s e)
+swap_master f work root s e = absurd (none-some s e)
 
 module _ (f : Formats) (w : World) (shelf : List Shelved) (l : Lawful f w shelf) (k n : ℕ) (t : Ticket) (s : Swap) (may : MaySettle f w k n t s) (present : t.term ≡ w.term) where
   mine : SwapIsOut w.tickets w.term k
@@ -242,11 +241,6 @@ module _ (f : Formats) (w : World) (shelf : List Shelved) (l : Lawful f w shelf)
       root_same e = cc
 
       no_root : {name : BlobName} → Reached f (HeldIn f w) w.root name → name ≡ Root m → ⊥
-      no_root (ReachSnap s there) e = cc
-      no_root (ReachMeta s there) e = cc
-      no_root (ReachIndexMeta x u there has) e = cc
-      no_root (ReachIndex i x g gen) e = cc
-      no_root (ReachShardSnap i x g s held l gen reads has there same) e = cc
       no_root (ReachPart i x g held en name gen reads has part) e = f_part i x en name part e
         where
           f_part : (i x : ℕ) (en : FileEntry) (name : BlobName) → Has (part_names i x en) name → name ≡ Root m → ⊥
@@ -257,6 +251,7 @@ module _ (f : Formats) (w : World) (shelf : List Shelved) (l : Lawful f w shelf)
 
               not_part : {a b c p : ℕ} → Part a b c p ≡ Root m → ⊥
               not_part e = cc
+      no_root other e = cc
 
   pred_same : {a b : ℕ} → suc a ≡ suc b → a ≡ b
   pred_same e = omega (arith, e)

@@ -18,7 +18,7 @@ use Rattle.esr_core.specs.Turns.{fails}
 use Rattle.esr_core.specs.Pruning.{planned}
 use Rattle.esr_core.specs.Ids.{Law}
 use Rattle.esr_core.specs.Deletes.{named_uuids, waiting_delete, running_delete, aborted_ops, delete_merged, delete_by}
-use Rattle.esr_core.specs.Entry.{AskedIndex, Asked, Snapshot, Clone, DeleteSnapshots, Restore, Cleanup, Given, GivenShard, GivenClone, GivenFinalize, GivenDrop, GivenRestore, GivenDelete, GivenCleanup, Read, DrawTest, CommitTest, Prune, FetchShard, PlanShards, SettlePruned, RemoveDoomed, EndDelete, DeleteFails, Step, AskStep, TakeStep, ListStep, WasListed, DrawStep, BeginStep, CommitStep, LatestStep, FetchStep, RaiseStep, SettleStep, DoneStep, FailedStep, FinishStep, DroppedStep, ElectStep, ReadStep, PruneStep, DepotFault, Reply, Gave, DrawnFrom, WasDone, WasThere, WasFetched, HasEnded, Refused, AcceptedRestore, Moment}
+use Rattle.esr_core.specs.Entry.{AskedIndex, Asked, Snapshot, Clone, DeleteSnapshots, Restore, Given, GivenShard, GivenClone, GivenFinalize, GivenRestore, Read, DrawTest, CommitTest, Prune, FetchShard, PlanShards, SettlePruned, EndDelete, DeleteFails, Step, AskStep, TakeStep, ListStep, WasListed, DrawStep, BeginStep, CommitStep, LatestStep, FetchStep, RaiseStep, SettleStep, DoneStep, FailedStep, FinishStep, DroppedStep, ElectStep, ReadStep, PruneStep, DepotFault, Reply, Gave, DrawnFrom, WasDone, WasThere, WasFetched, HasEnded, Refused, AcceptedRestore, Moment}
 use Rattle.esr_core.specs.After.{asked_op, cloned_op, taken_shard, taken_by, shard_of, with_given, change, committing, told_blob, fetching, settled_by, settled_of, done_by, done_of, is_stale, failed_by, failed_of, dropped_of, delete_settled_by, delete_settled, delete_failed_by, delete_failed, prune_step, read_by, done_step, swaps_record, has_text, fallen, is_latest, tried, test_left, faulted, answered, blobs_in, after}
 use Rattle.esr_core.specs.Allowed as allowed
 use Rattle.esr_core.specs.Allowed.{Allows, Allowed, DoneBy, DoneAs, Dones, GivesFinalize}
@@ -97,20 +97,14 @@ module _ (P : ℕ → ShardWork → Type 0) where
 
   taken_done : (f : Formats) (w : World) (o : ℕ) (unit : Given) (op : Option Op) → fin.get w.ops o ≡ op → HoldsOfDone w.ops → HoldsOfDone (taken_by f w o unit op).ops
   taken_done f w o (GivenShard index number base) (Some op) there h = taken_shard_done w o op base (shard_of op.shards index number) there h
-  taken_done f w o (GivenShard index number base) None there h = h
   taken_done f w o (GivenClone index number source base) (Some op) there h = taken_shard_done w o op base (shard_of op.shards index number) there h
-  taken_done f w o (GivenClone index number source base) None there h = h
   taken_done f w o (GivenFinalize info results) (Some op) there h = h
-  taken_done f w o (GivenFinalize info results) None there h = h
-  taken_done f w o GivenDrop op there h = h
   taken_done f w o (GivenRestore index number uuid) op there h = aside w _ (aside_taken w o index number (fin.get w.restores o)) h
-  taken_done f w o (GivenDelete uuids) op there h = h
-  taken_done f w o GivenCleanup op there h = h
+  taken_done f w o unit op there h = h
 
   settled_by_done : (f : Formats) (w : World) (k : ℕ) (t : Ticket) (s : Option Swap) (n : Option ℕ) → HoldsOfDone w.ops → HoldsOfDone (settled_by f w k t s n).ops
   settled_by_done f w k t (Some s) (Some n) h = left w.ops t.op h
-  settled_by_done f w k t (Some s) None h = h
-  settled_by_done f w k t None n h = h
+  settled_by_done f w k t s n h = h
 
   settled_done : (f : Formats) (w : World) (k : ℕ) (o : Option Ticket) → HoldsOfDone w.ops → HoldsOfDone (settled_of f w k o).ops
   settled_done f w k None h = h
@@ -143,8 +137,7 @@ module _ (P : ℕ → ShardWork → Type 0) where
 
   delete_settled_by_done : (f : Formats) (w : World) (k : ℕ) (t : Ticket) (s : Option Swap) (n : Option ℕ) → HoldsOfDone w.ops → HoldsOfDone (delete_settled_by f w k t s n).ops
   delete_settled_by_done f w k t (Some s) (Some n) h = left w.ops t.op h
-  delete_settled_by_done f w k t (Some s) None h = h
-  delete_settled_by_done f w k t None n h = h
+  delete_settled_by_done f w k t s n h = h
 
   delete_settled_done : (f : Formats) (w : World) (k : ℕ) (o : Option Ticket) → HoldsOfDone w.ops → HoldsOfDone (delete_settled f w k o).ops
   delete_settled_done f w k None h = h
@@ -161,12 +154,11 @@ module _ (P : ℕ → ShardWork → Type 0) where
 
   prune_done : (f : Formats) (w : World) (k : ℕ) (prune : Prune) (reply : Reply) (image : Option Image) → HoldsOfDone w.ops → HoldsOfDone (prune_step f w k prune reply image).ops
   prune_done f w k (FetchShard name) WasFetched image h = changed w k (fetching name (told_blob f image name)) h
-  prune_done f w k (FetchShard name) reply image h = h
   prune_done f w k (PlanShards shards) reply image h = changed w k (planned f shards w.next_id) h
   prune_done f w k SettlePruned reply image h = delete_settled_done f w k (fin.get w.tickets k) h
-  prune_done f w k (RemoveDoomed names) reply image h = h
   prune_done f w k EndDelete reply image h = changed w k (λ t. record t { out = false }) h
   prune_done f w k (DeleteFails why) reply image h = delete_failed_done w k (fin.get w.tickets k) h
+  prune_done f w k prune reply image h = h
 
   read_done : (f : Formats) (w : World) (k : ℕ) (read : Read) (reply : Reply) (image : Option Image) → HoldsOfDone w.ops → HoldsOfDone (read_by f w k read reply image).ops
   read_done f w zero DrawTest (DrawnFrom first) image h = h
@@ -181,11 +173,9 @@ module _ (P : ℕ → ShardWork → Type 0) where
 
   step_done : (f : Formats) (w : World) (k : ℕ) (step : Step) (reply : Reply) (image : Option Image) → DoesNone step → HoldsOfDone w.ops → HoldsOfDone (done_step f w k step reply image).ops
   step_done f w k (AskStep (Snapshot name indices moment)) reply image other h = asked_done w name indices moment h
-  step_done f w k (AskStep (Clone source name indices moment None)) reply image other h = h
   step_done f w k (AskStep (Clone source name indices moment (Some taken))) reply image other h = put w.ops w.next_op (cloned_op w name moment taken) h (λ s r none m state. absurd (none-some taken.source (sym none)))
   step_done f w k (AskStep (DeleteSnapshots names)) reply image other h = delete_done w names (waiting_delete w) (running_delete w (named_uuids w names)) h
   step_done f w k (AskStep (Restore name place)) (AcceptedRestore o uuid indices) image other h = h
-  step_done f w k (AskStep Cleanup) reply image other h = h
   step_done f w k TakeStep (Gave ticket op unit) image other h = taken_done f w op unit (fin.get w.ops op) refl h
   step_done f w k (DrawStep n) reply image other h = changed w k (λ t. record t { first = w.next_id; drawn = n }) h
   step_done f w k (CommitStep name) WasDone image other h = changed w k (committing name (told_blob f image name)) h
@@ -210,8 +200,7 @@ module _ (P : ℕ → ShardWork → Type 0) where
 
   left_ops : (w : World) (name : BlobName) (was now : Option Bytes) → (test_left w name was now).ops ≡ w.ops
   left_ops w name None (Some b) = refl
-  left_ops w name None None = refl
-  left_ops w name (Some b) now = refl
+  left_ops w name was now = refl
 
   asked_fault : (f : Formats) (w : World) (k : ℕ) (command : Asked) (image : Option Image) (b : Bool) → DoesNone (AskStep command) → HoldsOfDone w.ops
       → HoldsOfDone (if b then fallen f w (done_step f w k (AskStep command) HasEnded image) image else w).ops
@@ -256,11 +245,10 @@ same_text f w step now (Removal names how removes) name a b was is = same_Some a
 module _ (f : Formats) (old new : World) (one : (name : BlobName) (a b : Bytes) → At f old.blobs name a → At f new.blobs name b → a ≡ b) where
   parts_same : (names : List BlobName) (xs ys : List Bytes) → AllPairs (At f old.blobs) names xs → AllPairs (HeldIn f new) names ys → xs ≡ ys
   parts_same [] [] [] a b = refl
-  parts_same [] [] (y ∷ ys) a b = absurd b
   parts_same [] (x ∷ xs) ys a b = absurd a
   parts_same (name ∷ names) [] ys a b = absurd a
-  parts_same (name ∷ names) (x ∷ xs) [] a b = absurd b
   parts_same (name ∷ names) (x ∷ xs) (y ∷ ys) a b = λ j. one name x y a.0 b.0.0 j ∷ parts_same names xs ys a.1 b.1 j
+  parts_same names xs ys a b = absurd b
 
   file_again : (index shard : ℕ) (e : FileEntry) (bytes other : Bytes) → FileStands f (At f old.blobs) index shard e bytes → FileStands f (HeldIn f new) index shard e other → FileStands f (At f new.blobs) index shard e bytes
   file_again index shard e bytes other a b =
@@ -278,10 +266,9 @@ module _ (f : Formats) (old new : World) (one : (name : BlobName) (a b : Bytes) 
       → AllPairs (λ (e : FileEntry) (file : Bytes × Bytes). (e.physical ≡ file.0) × FileStands f (HeldIn f new) index shard e file.1) es others
       → AllPairs (λ (e : FileEntry) (file : Bytes × Bytes). (e.physical ≡ file.0) × FileStands f (At f new.blobs) index shard e file.1) es files
   files_again index shard [] [] others a b = tt
-  files_again index shard [] (x ∷ files) others a b = absurd a
-  files_again index shard (e ∷ es) [] others a b = absurd a
   files_again index shard (e ∷ es) (x ∷ files) [] a b = absurd b
   files_again index shard (e ∷ es) (x ∷ files) (y ∷ others) a b = ((a.0.0, file_again index shard e x.1 y.1 a.0.1 b.0.1), files_again index shard es files others a.1 b.1)
+  files_again index shard es files others a b = absurd a
 
   -- what stands with some files afterwards stands with those of before
   stands_again : (index shard uuid : ℕ) (files : List (Bytes × Bytes)) → StandsAs f (At f old.blobs) index shard uuid files → (snap : ShardSnapshot) → Reads (HeldIn f new) (ShardSnap index shard uuid) f.shard_snap snap

@@ -19,9 +19,8 @@ module _ (f : Formats) (blobs : Blobs) (has : BlobName → Bytes → Type 0) (at
 
   parts_are : (names : List BlobName) (parts : List Bytes) → AllPairs has names parts → map (blob_at f blobs) names ≡ parts
   parts_are [] [] h = refl
-  parts_are [] (bytes ∷ parts) h = absurd h
-  parts_are (name ∷ names) [] h = absurd h
   parts_are (name ∷ names) (bytes ∷ parts) h = λ j. blob_is name bytes h.0 j ∷ parts_are names parts h.1 j
+  parts_are names parts h = absurd h
 
   bytes_are : (index shard : ℕ) (e : FileEntry) (bytes : Bytes) → FileStands f has index shard e bytes → concat (map (blob_at f blobs) (part_names index shard e)) ≡ bytes
   bytes_are index shard e bytes h = ap concat (parts_are (part_names index shard e) h.parts h.there) ∙ h.joined
@@ -29,9 +28,8 @@ module _ (f : Formats) (blobs : Blobs) (has : BlobName → Bytes → Type 0) (at
   files_are : (index shard : ℕ) (entries : List FileEntry) (files : List (Bytes × Bytes)) → AllPairs (λ (e : FileEntry) (file : Bytes × Bytes). (e.physical ≡ file.0) × FileStands f has index shard e file.1) entries files
       → map (stored_file f blobs index shard) entries ≡ files
   files_are index shard [] [] h = refl
-  files_are index shard [] (file ∷ files) h = absurd h
-  files_are index shard (e ∷ entries) [] h = absurd h
   files_are index shard (e ∷ entries) ((physical, bytes) ∷ files) h = λ j. (h.0.0 j, bytes_are index shard e bytes h.0.1 j) ∷ files_are index shard entries files h.1 j
+  files_are index shard entries files h = absurd h
 
   entries_are : (index shard uuid : ℕ) (snap : ShardSnapshot) → Reads has (ShardSnap index shard uuid) f.shard_snap snap → stored_entries f blobs index shard uuid ≡ snap.files
   entries_are index shard uuid snap reads = ap or_no_entries (ap f.shard_snap.read (blob_is (ShardSnap index shard uuid) reads.bytes reads.there) ∙ reads.reads)

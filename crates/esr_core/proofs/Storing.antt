@@ -61,9 +61,8 @@ pieces_joined size zero bytes = append-nil bytes
 pieces_joined size (suc n) bytes = ap (λ ys. take size bytes ++ ys) (pieces_joined size n (drop size bytes)) ∙ take-append-drop size bytes
 
 pieces_length : (size n : ℕ) (bytes : Bytes) → length (pieces size n bytes) ≡ n
-pieces_length size zero bytes = refl
-pieces_length size (suc zero) bytes = refl
 pieces_length size (suc (suc n)) bytes = ap suc (pieces_length size (suc n) (drop size bytes))
+pieces_length size n bytes = refl
 
 -- there is a part, and all but the last are full
 count_part : (len size : ℕ) → 0 < size → (n : ℕ) × (part_count len size ≡ suc n) × (n * size ≤ len)
@@ -162,13 +161,6 @@ entry_from f size base (file ∷ files) next e m = go (reused_file f base file) 
     ]
 
 -- ---- the index
-
-has_true : (es : List FileEntry) (e : FileEntry) → Has es e → has_entry es e.name ≡ true
-has_true [] e m = absurd m
-has_true (x ∷ es) e m = elim (eqb_tells x.name e.name) [
-  | inl h ↦ cond-true _ _ _ h.0
-  | inr h ↦ elim m [ inl same ↦ absurd (h.1 (ap (λ (y : FileEntry). y.name) same)) | inr rest ↦ cond-false _ _ _ h.0 ∙ has_true es e rest ]
-]
 
 has_false : (es : List FileEntry) (id : ℕ) → ((e : FileEntry) → Has es e → e.name < id) → has_entry es id ≡ false
 has_false [] id below = refl

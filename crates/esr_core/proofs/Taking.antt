@@ -205,10 +205,9 @@ module _ (f : Formats) (w : World) (shelf : List Shelved) (l : Lawful f w shelf)
       differ_drop e = cc
 
       master : (work : Work) (root : RootData) (s : Swap) → swap_of f work root ≡ Some s → IsMaster work
-      master (Shard i n) root s e = absurd (none-some s e)
       master (Finalize info rs made) root s e = tt
       master (Deleting uuids plan) root s e = tt
-      master Drop root s e = absurd (none-some s e)
+      master work root s e = absurd (none-some s e)
 
       it : TakeFinalize f w o op results new
       it = record {

@@ -2,7 +2,7 @@
 use Rattle.std.proofs.Common.{◌≡◌, ◌⊎◌, ℕ, suc, ◌<◌, List, [], ◌∷◌, Some, None, sym, ap, ◌∙◌, subst, inl, inr, arith}
 use Rattle.std.specs.Cmp.Lexicographic.{nat_list_cmp_total}
 use Rattle.std.specs.FinMap as fin
-use Rattle.esr_model.specs.Names.{BlobName, Root, Latest, Snap, Meta, IndexMeta, ShardSnap, ShardIndex, File, Part, TestMaster, TestNode}
+use Rattle.esr_model.specs.Names.{BlobName, Root, ShardSnap, TestMaster, TestNode}
 use Rattle.esr_model.specs.Values.{Bytes, Formats}
 use Rattle.esr_model.specs.Shelf.{Shelved}
 use Rattle.esr_model.specs.Kept.{IdsBelow}
@@ -27,43 +27,22 @@ use Rattle.esr_core.proofs.Below.{ids_up, ids_blobs, ids_doom}
 -- ---- the name of a test blob
 
 test_below : (v : ℕ) (name : BlobName) (c : ℕ) → IsTestOf v name → v < c → IdsBelow name c
-test_below v (Root n) c t b = absurd t
-test_below v Latest c t b = absurd t
-test_below v (Snap u) c t b = absurd t
-test_below v (Meta u) c t b = absurd t
-test_below v (IndexMeta i u) c t b = absurd t
 test_below v (ShardSnap i k u) c t b = absurd t
-test_below v (ShardIndex i k g) c t b = absurd t
-test_below v (File i k x) c t b = absurd t
-test_below v (Part i k x p) c t b = absurd t
 test_below v (TestMaster u) c t b = subst (λ x. x < c) (sym t) b
 test_below v (TestNode u n) c t b = subst (λ x. x < c) (sym t) b
+test_below v name c t b = absurd t
 
 test_uuid : (v : ℕ) (name : BlobName) (u : ℕ) → IsTestOf v name → OfUuid name u → ⊥
-test_uuid v (Root n) u t o = t
-test_uuid v Latest u t o = t
-test_uuid v (Snap x) u t o = t
-test_uuid v (Meta x) u t o = t
-test_uuid v (IndexMeta i x) u t o = t
 test_uuid v (ShardSnap i k x) u t o = t
-test_uuid v (ShardIndex i k g) u t o = t
-test_uuid v (File i k x) u t o = t
-test_uuid v (Part i k x p) u t o = t
 test_uuid v (TestMaster x) u t o = o
 test_uuid v (TestNode x n) u t o = o
+test_uuid v name u t o = t
 
 test_id : (v : ℕ) (name : BlobName) (u : ℕ) → IsTestOf v name → OfId name u → ⊥
-test_id v (Root n) u t o = t
-test_id v Latest u t o = t
-test_id v (Snap x) u t o = t
-test_id v (Meta x) u t o = t
-test_id v (IndexMeta i x) u t o = t
 test_id v (ShardSnap i k x) u t o = t
-test_id v (ShardIndex i k g) u t o = t
-test_id v (File i k x) u t o = t
-test_id v (Part i k x p) u t o = t
 test_id v (TestMaster x) u t o = o
 test_id v (TestNode x n) u t o = o
+test_id v name u t o = t
 
 pub test_meta : (v u : ℕ) (name : BlobName) → IsTestOf v name → IsMetaOf u name → ⊥
 test_meta v u name t m = elim m [

@@ -173,8 +173,7 @@ fails_done k x (Out j) r state = elim (cases_Bool (j == k)) [
       absurd (up_done r (sym (ap (λ (y : ShardWork). y.state) now) ∙ state))
   | inr b ↦ cond-false _ _ _ b
 ]
-fails_done k x (Done q) r state = refl
-fails_done k x GivenUp r state = refl
+fails_done k x st r state = refl
 
 done_removed : (ops : FinMap nat_cmp Op) (o : ℕ) → DonesWere ops (fin.remove ops o)
 done_removed ops o = λ u i k g a.

@@ -19,7 +19,7 @@ use Rattle.esr_core.specs.After.{shard_of, taken_shard, taken_by, answered, afte
 use Rattle.esr_core.specs.Allowed as allowed
 use Rattle.esr_core.specs.Allowed.{Settles, SettlesDeletion, Allows, Allowed}
 use Rattle.esr_core.specs.History.{world_from, IsLegal, AreTold, counts, is_settle, command_by, command_of, commands_at, committed}
-use Rattle.esr_core.specs.Changes.{StepChange, NoChange, NewOp, NewDeletion, MergedDeletion, NewRestore, NewTicket, NewReader, OwnTicket, Settlement, UnitEnd, DeletionFailure, OpDrop, Election, ReaderFetch, ReaderEnd, PlainDraw, TestBlob, SwapFault}
+use Rattle.esr_core.specs.Changes.{StepChange, NewTicket, NewReader, OwnTicket, Settlement, UnitEnd, DeletionFailure, OpDrop, SwapFault}
 use Rattle.esr_core.specs.Sources.{told_snap, told_from, told_command, IsOfSources, AreOfSources, IsOfOp, AreOfOps}
 use Rattle.esr_core.proofs.Besides.{aside_taken}
 use Rattle.esr_core.proofs.Blocked.{blocked_none}
@@ -61,11 +61,6 @@ put_free w who t v there free u e = elim (get_was nat_cmp_total nat_cmp-IsAntisy
 -- only a take gives one
 module _ (f : Formats) (w : World) (who : ℕ) (step : Step) (other : step ≡ TakeStep → ⊥) (free : IsFree w) where
   none_new : (new : World) → StepChange f w who step new → (u : Ticket) → fin.get new.tickets w.next_ticket ≡ Some u → ⊥
-  none_new new NoChange u e = free u e
-  none_new new (NewOp ask op completed next_id uuid above) u e = free u e
-  none_new new (NewDeletion ask ops x aborts clean) u e = free u e
-  none_new new (MergedDeletion ask ops d x v aborts there clean failed) u e = free u e
-  none_new new (NewRestore ask r) u e = free u e
   none_new new (NewTicket take t fresh ops same) u e = other take
   none_new new (NewReader take o r s there) u e = other take
   none_new new (OwnTicket t v there unit settled next_id pending id_above above) u e = put_free w who t v there free u e
@@ -73,12 +68,8 @@ module _ (f : Formats) (w : World) (who : ℕ) (step : Step) (other : step ≡ T
   none_new new (UnitEnd t op v completed there found same) u e = put_free w who t (record t { out = false }) there free u e
   none_new new (DeletionFailure t x there found) u e = put_free w who t (record t { out = false }) there free u e
   none_new new (OpDrop drops t there) u e = put_free w who t (record t { out = false }) there free u e
-  none_new new (Election elects) u e = free u e
-  none_new new (ReaderFetch q name bytes there) u e = free u e
-  none_new new (ReaderEnd q r state there found) u e = free u e
-  none_new new (PlainDraw next_id pending id_above above) u e = free u e
-  none_new new (TestBlob name is) u e = free u e
   none_new new (SwapFault swaps up h) u e = none_new up h u e
+  none_new new other u e = free u e
 
 -- the answer gives a finalization of an op, with this command
 record IsGiven (f : Formats) (w : World) (reply : Reply) (made : Command) : Type 0 where
@@ -106,9 +97,7 @@ module _ (f : Formats) (w : World) (free : IsFree w) (v : Ticket) (info : SnapIn
 
   taken : (ticket o : ℕ) (unit : Given) (op : Option Op) → fin.get w.ops o ≡ op → fin.get (taken_by f w o unit op).tickets w.next_ticket ≡ Some v → IsGiven f w (Gave ticket o unit) made
   taken ticket o (GivenShard index number base) (Some op) there e = absurd (no_taken_shard o op base (shard_of op.shards index number) e)
-  taken ticket o (GivenShard index number base) None there e = absurd (free v e)
   taken ticket o (GivenClone index number source base) (Some op) there e = absurd (no_taken_shard o op base (shard_of op.shards index number) e)
-  taken ticket o (GivenClone index number source base) None there e = absurd (free v e)
   taken ticket o (GivenFinalize sums shards) (Some op) there e =
       record {
         ticket = ticket;
@@ -120,16 +109,15 @@ module _ (f : Formats) (w : World) (free : IsFree w) (v : Ticket) (info : SnapIn
         there = there;
         made_is = sym (made_same (info_of op shards) info shards results (made_of f w.blobs op) made (new_work (final_ticket f w o op shards) e));
       }
-  taken ticket o (GivenFinalize sums shards) None there e = absurd (free v e)
   taken ticket o GivenDrop op there e = absurd (no_drop info results made (new_work (plain_ticket w o Drop) e))
   taken ticket o (GivenRestore index number uuid) op there e = absurd (free v (sym (ap (λ (x : World). fin.get x.tickets w.next_ticket) (aside_taken w o index number (fin.get w.restores o)).new_is) ∙ e))
   taken ticket o (GivenDelete uuids) op there e = absurd (no_delete uuids None info results made (new_work (plain_ticket w o (Deleting uuids None)) e))
   taken ticket o GivenCleanup op there e = absurd (no_delete [] None info results made (new_work (cleaning_ticket w o) e))
+  taken ticket o unit op there e = absurd (free v e)
 
   at_take : (who : ℕ) (reply : Reply) (image : Option Image) → fin.get (answered f w who TakeStep reply image).tickets w.next_ticket ≡ Some v → IsGiven f w reply made
   at_take who (Gave ticket o unit) image e = taken ticket o unit (fin.get w.ops o) refl e
   at_take who (Refused DepotFault) image e = absurd (free v e)
-  at_take who (Refused refusal) image e = absurd (free v e)
   at_take who reply image e = absurd (free v e)
 
   new_final : (m : Moment) → fin.get (after f w m).tickets w.next_ticket ≡ Some v → IsGiven f w m.entry.reply made
@@ -165,8 +153,7 @@ record HasCommand (f : Formats) (w : World) (who : ℕ) (c : Command) : Type 0 w
 module _ (f : Formats) (w : World) (who safe : ℕ) (c : Command) where
   of_swap : (t : Ticket) → fin.get w.tickets who ≡ Some t → (s : Option Swap) (n : Option ℕ) → swap f t ≡ s → Has (command_by safe s n) c → HasCommand f w who c
   of_swap t there (Some s) (Some n) is h = record { t = t; s = s; there = there; is = is; has = (of_cond (nat_lt n safe) s.commands c h).1 }
-  of_swap t there (Some s) None is h = absurd h
-  of_swap t there None n is h = absurd h
+  of_swap t there s n is h = absurd h
 
   of_ticket : (o : Option Ticket) → fin.get w.tickets who ≡ o → Has (command_of f safe o) c → HasCommand f w who c
   of_ticket None there h = absurd h

@@ -19,10 +19,10 @@ use Rattle.esr_core.specs.World.{World, Op, ShardWork, Out, Done, Work, Shard, F
 use Rattle.esr_core.specs.Ready.{Goes, Stopped, IsShard, IsMaster, ReadyDrop, SwapIsOut}
 use Rattle.esr_core.specs.Steps.{with_ticket, completing, listing, final_ticket, plain_ticket}
 use Rattle.esr_core.specs.Turns.{cleaning_ticket, fails}
-use Rattle.esr_core.specs.Entry.{AskedIndex, CloneOf, Snapshot, Clone, Given, GivenShard, GivenFinalize, GivenDrop, Step, Reply, Moment, GivenRestore, DeleteSnapshots, Restore, Cleanup, AskStep, ReadStep, Read, ReadBlob, RestoredShard, ReadFails, WasFetched, WasAbsent, HasEnded, GivenClone, GivenDelete, GivenCleanup, Prune, PruneStep}
+use Rattle.esr_core.specs.Entry.{AskedIndex, CloneOf, Snapshot, Given, GivenShard, GivenFinalize, GivenDrop, Step, Reply, Moment, GivenRestore, ReadStep, Read, ReadBlob, RestoredShard, ReadFails, WasFetched, WasAbsent, HasEnded, GivenClone, GivenDelete, GivenCleanup, Prune, PruneStep}
 use Rattle.esr_core.specs.After.{asked, asked_op, cloned_op, clone_opened, taken_by, taken_shard, with_given, change, committing, fetching, told_blob, done_of, done_by, failed_of, failed_by, is_stale, settled_of, dropped_of, tried, answered, blobs_in, after, stepped, test_left, deletes_left, delete_settled, delete_failed, delete_failed_by}
 use Rattle.esr_core.specs.Allowed as allowed
-use Rattle.esr_core.specs.Allowed.{MayPlan, SettlesDeletion, FailsDeletion, PruneAllows, FetchingShard, ShardMissing, FetchShardFails, Planning, PlanSpent, SettlingDelete, SettleDeleteStale, SettleDeleteFails, RemovingDoomed, RemoveDoomedFails, EndingDelete, FailingDelete, Accepts, Gives, Settles, Fails, Drops, Dones, Allows, Allowed, DeleteAllows, GoingInto, NotNamed, CloneStands, RestoreStands, FullOfOps, DeleteFault, CleanupAllows, OpeningCleanup, OpStands, TicketStands, CleanupFault, RestoreAllows, OpeningRestore, NotListed, NamedByDelete, FullOfRestores, AcceptsClone, CloneAllows, OpeningClone, CloneUsed, SourceNotListed, SourceDeleted, IndexMissing, FullOfClones, CloneSpent, CloneFault, ReadAllows, ReadFound, ReadMissing, ReadFault, RestoringShard, ReaderFailing, CheckingAll, CheckFailing, VerifyAllows, DrawingTest, TestSpent, BeginningTest, BeginTestFails, CommittingTest, TestTaken, CommitTestFails, RemovingTests, RemoveTestsFails, VerifyingAll, VerifyFailing}
+use Rattle.esr_core.specs.Allowed.{MayPlan, SettlesDeletion, FailsDeletion, PruneAllows, FetchingShard, Planning, SettlingDelete, SettleDeleteFails, EndingDelete, FailingDelete, Accepts, Gives, Settles, Fails, Drops, Dones, Allows, Allowed, AcceptsClone, ReadAllows, ReadFound, ReadMissing, RestoringShard, ReaderFailing, VerifyAllows, DrawingTest, CommittingTest, CommitTestFails}
 use Rattle.esr_core.specs.History.{world_from, IsLegal}
 use Rattle.esr_core.specs.Tracked.{IsOneIndex, FinalTracked, Named, Tracked, IsWithin, DeleteTracked}
 use Rattle.esr_core.specs.Laws.DoneShards.{done_same}
@@ -43,6 +43,7 @@ use Rattle.esr_core.proofs.TrackingDeletes.{tracked_delete, tracked_cleanup}
 use Rattle.esr_core.proofs.TrackingGiven.{tracked_given}
 use Rattle.esr_core.proofs.Plans.{plan_within}
 use Rattle.esr_core.proofs.TrackingEnds.{GoesOnPast, tracked_went}
+use Rattle.esr_core.specs.Restores.{restore_opened}
 
 -- other blobs
 kept : (w : World) → Tracked w → (blobs : Blobs) → Tracked (record w { blobs = blobs })
@@ -73,8 +74,7 @@ lists_page t page = record { work = refl; op = refl; uuid = refl; place = refl; 
 shard_of : (work : Work) → IsShard work → (i : ℕ) × (n : ℕ) × (work ≡ Shard i n)
 shard_of (Shard i n) h = (i, n, refl)
 shard_of (Finalize info results made) h = absurd h
-shard_of (Deleting uuids plan) h = absurd h
-shard_of Drop h = absurd h
+shard_of work h = absurd h
 
 module _ (f : Formats) (size : ℕ) (w : World) (l : Tracked w) where
   changed : (k : ℕ) (t : Ticket) → fin.get w.tickets k ≡ Some t → (g : Ticket → Ticket) → Follows t (g t) → (g t).first + (g t).drawn ≤ w.next_id → Tracked (change w k g)
@@ -102,39 +102,21 @@ module _ (f : Formats) (size : ℕ) (w : World) (l : Tracked w) where
   final_same : (a b : SnapInfo) (rs qs : List ShardResult) (m n : Command) → Finalize a rs m ≡ Finalize b qs n → (a ≡ b) × (rs ≡ qs)
   final_same a b rs qs m n e = (cc, cc)
 
-  final_drop : (a : SnapInfo) (rs : List ShardResult) (m : Command) → Finalize a rs m ≡ Drop → ⊥
-  final_drop a rs m e = cc
-
-  drop_delete : (uuids : List ℕ) (plan : Option Swap) → Drop ≡ Deleting uuids plan → ⊥
-  drop_delete uuids plan e = cc
-
-  final_delete : (a : SnapInfo) (rs : List ShardResult) (m : Command) (uuids : List ℕ) (plan : Option Swap) → Finalize a rs m ≡ Deleting uuids plan → ⊥
-  final_delete a rs m uuids plan e = cc
-
-  delete_final : (uuids : List ℕ) (plan : Option Swap) (a : SnapInfo) (rs : List ShardResult) (m : Command) → Deleting uuids plan ≡ Finalize a rs m → ⊥
-  delete_final uuids plan a rs m e = cc
-
-  delete_drop : (uuids : List ℕ) (plan : Option Swap) → Deleting uuids plan ≡ Drop → ⊥
-  delete_drop uuids plan e = cc
-
   no_plan : (us vs : List ℕ) (plan : Option Swap) (s : Swap) → Deleting us None ≡ Deleting vs plan → plan ≡ Some s → ⊥
   no_plan us vs plan s e is = cc
-
-  drop_final : (a : SnapInfo) (rs : List ShardResult) (m : Command) → Drop ≡ Finalize a rs m → ⊥
-  drop_final a rs m e = cc
 
   gives_drop : (o : ℕ) → ReadyDrop w o → Tracked (record w { tickets = fin.insert w.tickets w.next_ticket (plain_ticket w o Drop); next_ticket = suc w.next_ticket })
   gives_drop o ready =
       tracked_new w l (plain_ticket w o Drop) (omega arith) (omega arith) (elim ready.stopped [ inl z ↦ l.numbers o z.0 z.1 | inr z ↦ l.delete_numbers o z.0 z.1 ]) (λ h. h)
-      (λ info rs made e. absurd (drop_final info rs made e))
+      (λ info rs made e. absurd cc)
       (λ e. record {
         stopped = λ op there. elim ready.stopped [ inl z ↦ subst Stopped (same_Some _ _ (sym z.1 ∙ there)) z.2 | inr z ↦ absurd (l.apart o op z.0 there z.1) ];
         idle = λ k u there out shard same. ready.idle k (record { t = u; there = there; out = out; op_is = same; counts = inl shard });
         failed = λ x there. elim ready.stopped [ inl z ↦ absurd (l.apart o z.0 x z.1 there) | inr z ↦ ap (λ (y : Deletion). y.failed) (same_Some _ _ (sym there ∙ z.1)) ∙ z.2 ];
       })
       (λ h. absurd h)
-      (λ uuids plan e. absurd (drop_delete uuids plan e))
-      (λ uuids plan e. absurd (drop_delete uuids plan e))
+      (λ uuids plan e. absurd cc)
+      (λ uuids plan e. absurd cc)
       (λ c. absurd (true≢false (sym c)))
 
   gives : (o : ℕ) (unit : Given) → Gives f w o unit → Tracked (taken_by f w o unit (fin.get w.ops o))
@@ -145,8 +127,8 @@ module _ (f : Formats) (size : ℕ) (w : World) (l : Tracked w) where
       given : Tracked (record w { tickets = fin.insert w.tickets w.next_ticket (plain_ticket w o (Deleting uuids None)); next_ticket = suc w.next_ticket })
       given =
           tracked_new w l (plain_ticket w o (Deleting uuids None)) (omega arith) (omega arith) (l.delete_numbers o g.0 g.1.there) (λ h. h)
-          (λ info rs made e. absurd (delete_final uuids None info rs made e))
-          (λ e. absurd (delete_drop uuids None e))
+          (λ info rs made e. absurd cc)
+          (λ e. absurd cc)
           (λ h k s. g.1.no_swap k s)
           (λ us plan e. record { x = g.0; there = g.1.there; unfailed = g.1.unfailed; root_is = refl; planned = λ s is. absurd (no_plan uuids us plan s e is) })
           (λ us plan e. record {
@@ -169,8 +151,8 @@ module _ (f : Formats) (size : ℕ) (w : World) (l : Tracked w) where
       given : Tracked (record w { tickets = fin.insert w.tickets w.next_ticket (cleaning_ticket w o); next_ticket = suc w.next_ticket })
       given =
           tracked_new w l (cleaning_ticket w o) (omega arith) (omega arith) (l.delete_numbers o g.0 g.1.there) (λ h. h)
-          (λ info rs made e. absurd (delete_final [] None info rs made e))
-          (λ e. absurd (delete_drop [] None e))
+          (λ info rs made e. absurd cc)
+          (λ e. absurd cc)
           (λ h k s. g.1.no_ticket k s.t s.there s.out)
           (λ us plan e. record { x = g.0; there = g.1.there; unfailed = g.1.unfailed; root_is = refl; planned = λ s is. absurd (no_plan [] us plan s e is) })
           (λ us plan e. record { x = g.0; there = g.1.there; unfailed = g.1.unfailed; mode = g.1.cleans; alone = λ c k t at out. g.1.no_ticket k t at out; aside = λ k t at out. absurd (g.1.no_ticket k t at out) })
@@ -196,10 +178,10 @@ module _ (f : Formats) (size : ℕ) (w : World) (l : Tracked w) where
         info_is = sym same.0 ∙ ap (info_of g.op) same.1;
         root_is = refl;
       })
-      (λ e. absurd (final_drop (info_of g.op results) results (made_of f w.blobs g.op) e))
+      (λ e. absurd cc)
       (λ h k s. g.ready.no_swap k s)
-      (λ uuids plan e. absurd (final_delete (info_of g.op results) results (made_of f w.blobs g.op) uuids plan e))
-      (λ uuids plan e. absurd (final_delete (info_of g.op results) results (made_of f w.blobs g.op) uuids plan e))
+      (λ uuids plan e. absurd cc)
+      (λ uuids plan e. absurd cc)
       (λ c. absurd (true≢false (sym c))))
   gives o GivenDrop g = dropping (fin.get w.ops o)
     where
@@ -562,102 +544,46 @@ module _ (f : Formats) (size : ℕ) (w : World) (l : Tracked w) where
 
   prunes : (k : ℕ) (prune : Prune) (reply : Reply) (image : Option Image) → PruneAllows f w k prune reply image → Tracked (stepped f w (moment k (PruneStep prune) reply image))
   prunes who prune reply image (FetchingShard k name im g found) = kept _ (fetches k g.t g.deleting.out.there name (told_blob f im name)) (blobs_in im w.blobs)
-  prunes who prune reply image (ShardMissing k name im g found) = kept w l (blobs_in im w.blobs)
-  prunes who prune reply image (FetchShardFails k name im g same) = kept w l (blobs_in im w.blobs)
   prunes who prune reply image (Planning k shards im p fits back same) = kept _ (plans k shards im p fits) (blobs_in im w.blobs)
-  prunes who prune reply image (PlanSpent k shards im p spent same) = kept w l (blobs_in im w.blobs)
   prunes who prune reply image (SettlingDelete k im s present same) = kept _ (deletion_settles k s present) (blobs_in im w.blobs)
-  prunes who prune reply image (SettleDeleteStale k im s apart same) = kept w l (blobs_in im w.blobs)
   prunes who prune reply image (SettleDeleteFails k im s present same) = falls w _ l (deletion_settles k s present) _ (blobs_in im w.blobs)
-  prunes who prune reply image (RemovingDoomed k names im r removed) = kept w l (blobs_in im w.blobs)
-  prunes who prune reply image (RemoveDoomedFails k names im r removes) = kept w l (blobs_in im w.blobs)
   prunes who prune reply image (EndingDelete k im e same) =
       kept _ (changed k e.t e.deleting.out.there (λ (t : Ticket). record t { out = false }) (ended e.t (λ shard. subst IsShard e.deleting.work shard)) (drew k e.t e.deleting.out.there)) (blobs_in im w.blobs)
   prunes who prune reply image (FailingDelete k why im c same) = kept _ (deletion_fails k c) (blobs_in im w.blobs)
+  prunes who prune reply image other = kept w l (blobs_in image w.blobs)
 
-  -- ---- a clone that is asked
-
-  asks_clone : (source name : Bytes) (names : List Bytes) (time : ℕ) (taken : Option CloneOf) (reply : Reply) (image : Option Image) → CloneAllows f w source name names time taken reply image
-      → Tracked (stepped f w (moment 0 (AskStep (Clone source name names time taken)) reply image))
-  asks_clone source name names time taken reply image (OpeningClone t o im acc) = kept _ (asks_copy source name names time o t im acc) (blobs_in im w.blobs)
-  asks_clone source name names time taken reply image (CloneUsed uuid im clear is) = kept w l (blobs_in im w.blobs)
-  asks_clone source name names time taken reply image (SourceNotListed im may none) = kept w l (blobs_in im w.blobs)
-  asks_clone source name names time taken reply image (SourceDeleted uuid d im may listed named) = kept w l (blobs_in im w.blobs)
-  asks_clone source name names time taken reply image (IndexMissing uuid place im may missing) = kept w l (blobs_in im w.blobs)
-  asks_clone source name names time taken reply image (FullOfClones uuid im may full) = kept w l (blobs_in im w.blobs)
-  asks_clone source name names time taken reply image (CloneSpent uuid im may room spent) = kept w l (blobs_in im w.blobs)
-  asks_clone source name names time taken reply image (CloneFault t im acc) = falls w _ l (asks_copy source name names time w.next_op t im acc) _ (blobs_in im w.blobs)
-
-  -- ---- a delete that is asked
-
-  asks_delete : (names : List Bytes) (reply : Reply) (image : Option Image) → DeleteAllows w names reply → Tracked (stepped f w (moment 0 (AskStep (DeleteSnapshots names)) reply image))
-  asks_delete names reply image (GoingInto acc) = kept _ (tracked_delete w l names) (blobs_in image w.blobs)
-  asks_delete names reply image (NotNamed place clear first) = kept w l (blobs_in image w.blobs)
-  asks_delete names reply image (CloneStands o clear named lowest) = kept w l (blobs_in image w.blobs)
-  asks_delete names reply image (RestoreStands o clear named no_clone lowest) = kept w l (blobs_in image w.blobs)
-  asks_delete names reply image (FullOfOps may new full) = kept w l (blobs_in image w.blobs)
-  asks_delete names reply image (DeleteFault acc) = falls w _ l (tracked_delete w l names) _ (blobs_in image w.blobs)
-
-  -- ---- a cleanup that is asked
-
-  asks_cleanup : (reply : Reply) (image : Option Image) → CleanupAllows w reply → Tracked (stepped f w (moment 0 (AskStep Cleanup) reply image))
-  asks_cleanup reply image (OpeningCleanup acc) = kept _ (tracked_cleanup w l) (blobs_in image w.blobs)
-  asks_cleanup reply image (OpStands o clear lowest) = kept w l (blobs_in image w.blobs)
-  asks_cleanup reply image (TicketStands j none lowest) = kept w l (blobs_in image w.blobs)
-  asks_cleanup reply image (CleanupFault acc) = falls w _ l (tracked_cleanup w l) _ (blobs_in image w.blobs)
-
-  -- ---- restores and reading
-
-  asks_restore : (name place : Bytes) (reply : Reply) (image : Option Image) → RestoreAllows f w name reply image → Tracked (answered f w 0 (AskStep (Restore name place)) reply image)
-  asks_restore name place reply image (OpeningRestore o uuid indices im acc) = tracked_aside_of w _ (aside_opened w _ uuid place indices refl) l
-  asks_restore name place reply image (NotListed im none) = l
-  asks_restore name place reply image (NamedByDelete uuid d im listed named) = l
-  asks_restore name place reply image (FullOfRestores uuid im listed spared full) = l
+  -- ---- reading
 
   reads : (k : ℕ) (read : Read) (reply : Reply) (image : Option Image) → ReadAllows f w k read reply image → Tracked (answered f w k (ReadStep read) reply image)
   reads k read reply image (ReadFound j name im stored by found) = tracked_aside_of w _ (aside_by f w j (ReadBlob name) WasFetched im tt) l
   reads k read reply image (ReadMissing j name im stored by none) = tracked_aside_of w _ (aside_by f w j (ReadBlob name) WasAbsent im tt) l
-  reads k read reply image (ReadFault j name im stored by) = l
   reads k read reply image (RestoringShard j files bytes im q out done) = tracked_aside_of w _ (aside_by f w j (RestoredShard files bytes) HasEnded im tt) l
   reads k read reply image (ReaderFailing j why im q out) = tracked_aside_of w _ (aside_by f w j (ReadFails why) HasEnded im tt) l
-  reads k read reply image (CheckingAll snapshots blobs im checks) = l
-  reads k read reply image (CheckFailing why im looked) = l
+  reads k read reply image other = l
 
   test_left_tracked : (name : BlobName) (was now : Option Bytes) → Tracked (test_left w name was now)
   test_left_tracked name None (Some bytes) = tracked_aside w l w.blobs w.safe w.pending w.completed (name ∷ w.doomed) w.deposed
-  test_left_tracked name None None = l
-  test_left_tracked name (Some was) now = l
+  test_left_tracked name was now = l
 
   one_more : (n : ℕ) → n + 1 ≡ suc n
   one_more n = omega arith
 
   verifies : (read : Read) (reply : Reply) (image : Option Image) → VerifyAllows f w read reply image → Tracked (answered f w 0 (ReadStep read) reply image)
   verifies read reply image (DrawingTest im idle fits same) = subst (λ n. Tracked (record w { next_id = n })) (one_more w.next_id) (tracked_drawn w l 1 (let b : suc w.next_id < first_id (suc w.term) = fits in omega (arith, b)))
-  verifies read reply image (TestSpent im idle spent same) = l
-  verifies read reply image (BeginningTest name im own same) = l
-  verifies read reply image (BeginTestFails name im own same) = l
   verifies read reply image (CommittingTest name bytes im own new adds) = tracked_aside w l w.blobs w.safe w.pending w.completed (name ∷ w.doomed) w.deposed
-  verifies read reply image (TestTaken name im own found) = l
   verifies read reply image (CommitTestFails name bytes im own leaves) = test_left_tracked name (fin.get w.blobs (f.names.text name)) (told_blob f im name)
-  verifies read reply image (RemovingTests names im may left) = l
-  verifies read reply image (RemoveTestsFails names im may left) = l
-  verifies read reply image (VerifyingAll im done same) = l
-  verifies read reply image (VerifyFailing why im begun same) = l
+  verifies read reply image other = l
 
   -- ---- each answer
 
   tracked_by : (who : ℕ) (step : Step) (reply : Reply) (image : Option Image) → Allows f size w who step reply image → Tracked (stepped f w (moment who step reply image))
   tracked_by who step reply image (allowed.Accepting name indices time o im acc same) = kept _ (asks name indices time o acc) (blobs_in im w.blobs)
-  tracked_by who step reply image (allowed.GivingNothing im none same) = kept w l (blobs_in im w.blobs)
   tracked_by who step reply image (allowed.Giving k o unit im is lowest g same) = kept _ (gives o unit g) (blobs_in im w.blobs)
   tracked_by who step reply image (allowed.Drawing k n first im d same) = kept _ (draws k n d.may.t d.may.out.there d.fits) (blobs_in im w.blobs)
-  tracked_by who step reply image (allowed.Beginning k name im c same) = kept w l (blobs_in im w.blobs)
-  tracked_by who step reply image (allowed.BeginningLatest k im c same) = kept w l (blobs_in im w.blobs)
   tracked_by who step reply image (allowed.Committing k name im c adds) = kept _ (commits k c.t c.out.there name (told_blob f im name)) (blobs_in im w.blobs)
   tracked_by who step reply image (allowed.Finding k name im c found) = kept _ (commits k c.t c.out.there name None) (blobs_in im w.blobs)
   tracked_by who step reply image (allowed.Replacing k im c named puts) = kept _ (tries k c.t c.out.there) (blobs_in im w.blobs)
   tracked_by who step reply image (allowed.Fetching k name im g found) = kept _ (fetches k g.t g.out.there name (told_blob f im name)) (blobs_in im w.blobs)
-  tracked_by who step reply image (allowed.Missing k name im g found) = kept w l (blobs_in im w.blobs)
   tracked_by who step reply image (allowed.Listing k from page im g shape here) = kept _ (changed k g.t g.out.there (λ (t : Ticket). listing t page) (lists_page g.t page) (drew k g.t g.out.there)) (blobs_in im w.blobs)
   tracked_by who step reply image (allowed.Raising k n im r same) = kept _ (raises k r.may.t r.may.out.there) (blobs_in im w.blobs)
   tracked_by who step reply image (allowed.Settling k im s same) = kept _ (settles_step k s) (blobs_in im w.blobs)
@@ -666,36 +592,27 @@ module _ (f : Formats) (size : ℕ) (w : World) (l : Tracked w) where
   tracked_by who step reply image (allowed.Finishing k im c same) = kept _ (changed k c.t c.out.there (λ (t : Ticket). record t { out = false }) (ended c.t c.no_shard) (drew k c.t c.out.there)) (blobs_in im w.blobs)
   tracked_by who step reply image (allowed.Dropping k im c same) = kept _ (drops_step k im c) (blobs_in im w.blobs)
   tracked_by who step reply image (allowed.Electing im room same) = kept _ (tracked_elect w l) (blobs_in im w.blobs)
-  tracked_by who step reply image (allowed.Looking im same) = kept w l (blobs_in im w.blobs)
-  tracked_by who step reply image (allowed.AskingRestore name place rep im h same) = kept _ (asks_restore name place rep im h) (blobs_in im w.blobs)
-  tracked_by who step reply image (allowed.AskingClone source name names time taken rep im h same) = asks_clone source name names time taken rep im h
-  tracked_by who step reply image (allowed.AskingDelete names rep im h same) = asks_delete names rep im h
-  tracked_by who step reply image (allowed.AskingCleanup rep im h same) = asks_cleanup rep im h
+  tracked_by who step reply image (allowed.OpeningRestore name place o uuid indices im acc same) =
+      let v : World = restore_opened w uuid place indices in kept v (tracked_aside_of w v (aside_opened w v uuid place indices refl) l) (blobs_in im w.blobs)
+  tracked_by who step reply image (allowed.OpeningClone source name names time o t im acc same) = kept _ (asks_copy source name names time o t im acc) (blobs_in im w.blobs)
+  tracked_by who step reply image (allowed.GoingInto names im acc same) = kept _ (tracked_delete w l names) (blobs_in im w.blobs)
+  tracked_by who step reply image (allowed.OpeningCleanup im acc same) = kept _ (tracked_cleanup w l) (blobs_in im w.blobs)
   tracked_by who step reply image (allowed.Reading k read rep im h same) = kept _ (reads k read rep im h) (blobs_in im w.blobs)
   tracked_by who step reply image (allowed.Pruning k prune rep im h) = prunes k prune rep im h
   tracked_by who step reply image (allowed.Verifying read rep im h) = kept _ (verifies read rep im h) (blobs_in im w.blobs)
-  tracked_by who step reply image (allowed.Cleaning c d x im recorded untaken there clean same) = kept w l (blobs_in im w.blobs)
-  tracked_by who step reply image (allowed.Used name indices time uuid im clear is same) = kept w l (blobs_in im w.blobs)
-  tracked_by who step reply image (allowed.Full name indices time im clear unused full same) = kept w l (blobs_in im w.blobs)
-  tracked_by who step reply image (allowed.AskSpent name indices time im clear unused room spent same) = kept w l (blobs_in im w.blobs)
-  tracked_by who step reply image (allowed.DrawSpent k n im may spent same) = kept w l (blobs_in im w.blobs)
-  tracked_by who step reply image (allowed.RaiseStale k im may apart same) = kept w l (blobs_in im w.blobs)
-  tracked_by who step reply image (allowed.SettleStale k n t s im may apart same) = kept w l (blobs_in im w.blobs)
-  tracked_by who step reply image (allowed.DropStale k im may apart same) = kept w l (blobs_in im w.blobs)
-  tracked_by who step reply image (allowed.RaiseSpent k im may present spent same) = kept w l (blobs_in im w.blobs)
-  tracked_by who step reply image (allowed.ElectSpent im spent same) = kept w l (blobs_in im w.blobs)
-  tracked_by who step reply image (allowed.Taken k name im c aside found) = kept w l (blobs_in im w.blobs)
+  tracked_by who step reply image (allowed.Ruled command refusal im (allowed.Cleaning c d x recorded untaken there clean) same) = kept w l (blobs_in im w.blobs)
   tracked_by who step reply image (allowed.BeginFails k name im c same) = subst (λ (b : Bool). Tracked (record (if b then tried w k else w) { blobs = blobs_in im w.blobs })) (sym (not_latest name c.named.1)) (kept w l (blobs_in im w.blobs))
   tracked_by who step reply image (allowed.BeginLatestFails k im c same) = kept _ (tries k c.t c.out.there) (blobs_in im w.blobs)
-  tracked_by who step reply image (allowed.CommitFails k name im c leaves) = kept w l (blobs_in im w.blobs)
   tracked_by who step reply image (allowed.ReplaceFails k im c named puts) = kept _ (tries k c.t c.out.there) (blobs_in im w.blobs)
-  tracked_by who step reply image (allowed.FetchFails k name im g same) = kept w l (blobs_in im w.blobs)
-  tracked_by who step reply image (allowed.ListFails k from im g same) = kept w l (blobs_in im w.blobs)
   tracked_by who step reply image (allowed.AskFails name indices time im acc same) = falls w _ l (asks name indices time w.next_op acc) _ (blobs_in im w.blobs)
+  tracked_by who step reply image (allowed.AskCloneFails source name names time t im acc same) = falls w _ l (asks_copy source name names time w.next_op t im acc) _ (blobs_in im w.blobs)
+  tracked_by who step reply image (allowed.AskDeleteFails names im acc same) = falls w _ l (tracked_delete w l names) _ (blobs_in im w.blobs)
+  tracked_by who step reply image (allowed.AskCleanupFails im acc same) = falls w _ l (tracked_cleanup w l) _ (blobs_in im w.blobs)
   tracked_by who step reply image (allowed.RaiseFails k im r same) = falls w _ l (raises k r.may.t r.may.out.there) _ (blobs_in im w.blobs)
   tracked_by who step reply image (allowed.SettleFails k im s same) = falls w _ l (settles_step k s) _ (blobs_in im w.blobs)
   tracked_by who step reply image (allowed.DropFails k im c same) = falls w _ l (drops_step k im c) _ (blobs_in im w.blobs)
   tracked_by who step reply image (allowed.ElectFails im room same) = falls w _ l (tracked_elect w l) _ (blobs_in im w.blobs)
+  tracked_by who step reply image other = kept w l (blobs_in image w.blobs)
 
 pub tracked_step : (f : Formats) (size : ℕ) (w : World) (m : Moment) → Tracked w → Allowed f size w m → Tracked (after f w m)
 tracked_step f size w m l a = tracked_aside_of (stepped f w m) _ (aside_heard f w m) (elim a.answered [

@@ -1,11 +1,10 @@
 -- Each turn keeps ids below the counter, and doomed names apart.
-use Rattle.std.proofs.Common.{◌≡◌, ◌⊎◌, ℕ, suc, ◌+◌, ◌<◌, ◌≤◌, List, ◌∷◌, ◌++◌, Bool, true, false, true≢false, Option, Some, None, map, refl, sym, ap, ◌∙◌, subst, inl, inr, arith, nat_cmp, le_refl}
-use Rattle.std.specs.FinMap.{FinMap}
+use Rattle.std.proofs.Common.{◌≡◌, ◌⊎◌, ℕ, suc, ◌+◌, ◌<◌, ◌≤◌, List, ◌∷◌, ◌++◌, Bool, true, false, true≢false, Option, Some, None, map, refl, sym, ap, ◌∙◌, subst, inl, inr, arith, le_refl}
 use Rattle.std.specs.FinMap as fin
 use Rattle.std.proofs.lemmas.Option.{same_Some, none-some}
 use Rattle.esr_core.specs.Laws.NumberMaps.{was_in, left_in}
 use Rattle.esr_model.specs.Parts.{part_names}
-use Rattle.esr_model.specs.Names.{BlobName, Root, Latest, Snap, Meta, IndexMeta, ShardSnap, ShardIndex, File, Part, TestMaster, TestNode}
+use Rattle.esr_model.specs.Names.{BlobName, Snap, Meta, IndexMeta, ShardSnap, ShardIndex, File, Part}
 use Rattle.esr_model.specs.Values.{Bytes, IndexRef, RootSnap, RootData, ShardResult, Formats}
 use Rattle.esr_model.specs.Shelf.{Shelved}
 use Rattle.esr_model.specs.Image.{IsStored, Has, Present, Generation, RootStands}
@@ -37,30 +36,17 @@ use Rattle.esr_core.specs.Laws.SortedLists.{shard_ref}
 use Rattle.esr_core.specs.Laws.Maps.{Ops}
 
 uuid_below : (name : BlobName) (id c : ℕ) → OfUuid name id → IdsBelow name c → id < c
-uuid_below (Root n) id c of b = absurd of
-uuid_below Latest id c of b = absurd of
 uuid_below (Snap u) id c of b = subst (λ y. y < c) of b
 uuid_below (Meta u) id c of b = subst (λ y. y < c) of b
 uuid_below (IndexMeta i u) id c of b = subst (λ y. y < c) of b.1
 uuid_below (ShardSnap i s u) id c of b = subst (λ y. y < c) of b.1
-uuid_below (ShardIndex i s g) id c of b = absurd of
-uuid_below (File i s x) id c of b = absurd of
-uuid_below (Part i s x p) id c of b = absurd of
-uuid_below (TestMaster v) id c of b = absurd of
-uuid_below (TestNode v n) id c of b = absurd of
+uuid_below name id c of b = absurd of
 
 id_below : (name : BlobName) (id c : ℕ) → OfId name id → IdsBelow name c → id < c
-id_below (Root n) id c of b = absurd of
-id_below Latest id c of b = absurd of
-id_below (Snap u) id c of b = absurd of
-id_below (Meta u) id c of b = absurd of
-id_below (IndexMeta i u) id c of b = absurd of
-id_below (ShardSnap i s u) id c of b = absurd of
 id_below (ShardIndex i s g) id c of b = subst (λ y. y < c) of b.1
 id_below (File i s x) id c of b = subst (λ y. y < c) of b.1
 id_below (Part i s x p) id c of b = subst (λ y. y < c) of b.1
-id_below (TestMaster v) id c of b = absurd of
-id_below (TestNode v n) id c of b = absurd of
+id_below name id c of b = absurd of
 
 module _ (f : Formats) (w : World) (shelf : List Shelved) (l : Law f w shelf) where
   x : IdsIn f w
@@ -308,9 +294,6 @@ module _ (f : Formats) (w : World) (shelf : List Shelved) (l : Law f w shelf) wh
       | inr h ↦ subst (λ y. OfUuid y op.uuid) h.1 of
     ]
 
-    now_tickets : FinMap nat_cmp Ticket
-    now_tickets = fin.insert w.tickets k (record t { settled = true })
-
     settled_doomed : (name : BlobName) → Has (d.names ++ w.doomed) name → DoomedIds w.next_id (fin.remove w.ops t.op) (fin.insert w.tickets k (record t { settled = true })) name
     settled_doomed name m =
         record {
@@ -328,8 +311,7 @@ module _ (f : Formats) (w : World) (shelf : List Shelved) (l : Law f w shelf) wh
         shard_of : (work : Work) → IsShard work → (i : ℕ) × (q : ℕ) × (work ≡ Shard i q)
         shard_of (Shard i q) h = (i, q, refl)
         shard_of (Finalize info results made) h = absurd h
-        shard_of (Deleting uuids plan) h = absurd h
-        shard_of Drop h = absurd h
+        shard_of work h = absurd h
 
     pub settled_delete_ids : Ids f w.next_id w.blobs (d.names ++ w.doomed) s.root (fin.remove w.ops t.op) (fin.insert w.tickets k (record t { settled = true }))
     settled_delete_ids =

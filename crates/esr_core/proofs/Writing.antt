@@ -3,7 +3,7 @@ use Rattle.std.proofs.Common.{◌≡◌, ℕ, ◌+◌, ◌<◌, ◌≤◌, List,
 use Rattle.std.specs.FinMap as fin
 use Rattle.std.proofs.lemmas.Option.{none-some, same_Some}
 use Rattle.esr_core.specs.Laws.NumberMaps.{was_in}
-use Rattle.esr_model.specs.Names.{BlobName, Root, Latest, Snap, Meta, IndexMeta, ShardSnap, ShardIndex, File, Part, TestMaster, TestNode}
+use Rattle.esr_model.specs.Names.{BlobName, ShardSnap, ShardIndex, File, Part}
 use Rattle.esr_model.specs.Values.{Bytes, Has, FileEntry, ShardFiles, RootData, Formats}
 use Rattle.esr_model.specs.Shelf.{Shelved}
 use Rattle.esr_model.specs.Image.{IsStored, Blobs, Reads, IndexStands, At}
@@ -23,31 +23,19 @@ use Rattle.esr_core.specs.Laws.Maps.{Tickets}
 
 -- another ticket of the same unit that drew as much
 again : (t v : Ticket) → v.work ≡ t.work → v.uuid ≡ t.uuid → v.first ≡ t.first → v.drawn ≡ t.drawn → (name : BlobName) → ShardCommits t name → ShardCommits v name
-again t v w u f d (Root n) h = h
-again t v w u f d Latest h = h
-again t v w u f d (Snap x) h = h
-again t v w u f d (Meta x) h = h
-again t v w u f d (IndexMeta i x) h = h
 again t v w u f d (ShardSnap i k x) h = (w ∙ h.0, h.1 ∙ sym u)
 again t v w u f d (ShardIndex i k g) h = (w ∙ h.0, record { from = subst (λ n. n ≤ g) (sym f) h.1.from; below = subst (λ n. g < n) (sym (λ j. f j + d j)) h.1.below })
 again t v w u f d (File i k x) h = (w ∙ h.0, record { from = subst (λ n. n ≤ x) (sym f) h.1.from; below = subst (λ n. x < n) (sym (λ j. f j + d j)) h.1.below })
 again t v w u f d (Part i k x p) h = (w ∙ h.0, record { from = subst (λ n. n ≤ x) (sym f) h.1.from; below = subst (λ n. x < n) (sym (λ j. f j + d j)) h.1.below })
-again t v w u f d (TestMaster x) h = h
-again t v w u f d (TestNode x n) h = h
+again t v w u f d name h = h
 
 -- before its draw a ticket commits its snapshot alone
 early : (t v : Ticket) → v.work ≡ t.work → v.uuid ≡ t.uuid → t.drawn ≡ 0 → (name : BlobName) → ShardCommits t name → ShardCommits v name
-early t v w u none (Root n) h = h
-early t v w u none Latest h = h
-early t v w u none (Snap x) h = h
-early t v w u none (Meta x) h = h
-early t v w u none (IndexMeta i x) h = h
 early t v w u none (ShardSnap i k x) h = (w ∙ h.0, h.1 ∙ sym u)
 early t v w u none (ShardIndex i k g) h = absurd (let a : t.first ≤ g = h.1.from in let b : g < t.first + t.drawn = h.1.below in omega (arith, none))
 early t v w u none (File i k x) h = absurd (let a : t.first ≤ x = h.1.from in let b : x < t.first + t.drawn = h.1.below in omega (arith, none))
 early t v w u none (Part i k x p) h = absurd (let a : t.first ≤ x = h.1.from in let b : x < t.first + t.drawn = h.1.below in omega (arith, none))
-early t v w u none (TestMaster x) h = h
-early t v w u none (TestNode x n) h = h
+early t v w u none name h = h
 
 module _ (f : Formats) (blobs : Blobs) (tickets : Tickets) (h : Written f blobs tickets) where
   -- a ticket
@@ -86,15 +74,10 @@ module _ (f : Formats) (blobs : Blobs) (tickets : Tickets) (h : Written f blobs 
         fresh = λ i x g held is at reads e m id drew. absurd (let a : v.first ≤ id = drew.from in let b : id < v.first + v.drawn = drew.below in omega (arith, undrawn, a, b));
       })
 
--- of a ticket that is no shard's
-no_shard : (f : Formats) (blobs : Blobs) (v : Ticket) → (IsShard v.work → ⊥) → v.out ≡ true → IsShard v.work → WroteLaw f blobs v
-no_shard f blobs v not o s = absurd (not s)
-
 no_swap : (f : Formats) (work : Work) (root : RootData) (s : Swap) → swap_of f work root ≡ Some s → IsShard work → ⊥
 no_swap f (Shard i k) root s e h = none-some s e
 no_swap f (Finalize info results made) root s e h = h
-no_swap f (Deleting uuids plan) root s e h = h
-no_swap f Drop root s e h = h
+no_swap f work root s e h = h
 
 module _ (f : Formats) (w : World) (shelf : List Shelved) (l : Law f w shelf) (h : Written f w.blobs w.tickets) where
   -- a base is there, and is one
@@ -171,19 +154,13 @@ module _ (f : Formats) (w : World) (shelf : List Shelved) (l : Law f w shelf) (h
       is_shard i s e = subst IsShard (sym e) tt
 
       go : (n : BlobName) → ShardCommits t n → Has w.doomed n → ⊥
-      go (Root n) m d = m
-      go Latest m d = m
-      go (Snap u) m d = m
-      go (Meta u) m d = m
-      go (IndexMeta i u) m d = m
       go (ShardSnap i s u) m d =
           let law = l.lawful.sound.carried.shards k t there out i s m.0 in
           (l.ids.doomed (ShardSnap i s u) d).uuids t.op law.op law.op_there (m.1 ∙ sym law.uuid_is)
       go (ShardIndex i s g) m d = drawn (ShardIndex i s g) g (is_shard i s m.0) m.1 refl d
       go (File i s x) m d = drawn (File i s x) x (is_shard i s m.0) m.1 refl d
       go (Part i s x p) m d = drawn (Part i s x p) x (is_shard i s m.0) m.1 refl d
-      go (TestMaster v) m d = m
-      go (TestNode v n) m d = m
+      go n m d = m
 
   -- nor its base
   base_held : (k : ℕ) (t : Ticket) → fin.get w.tickets k ≡ Some t → t.out ≡ true → (i s g : ℕ) → t.work ≡ Shard i s → t.base ≡ Some g → Has w.doomed (ShardIndex i s g) → ⊥

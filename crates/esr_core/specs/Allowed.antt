@@ -132,13 +132,6 @@ pub record AcceptsRestore (f : Formats) (w : World) (name : Bytes) (o uuid : ℕ
   pub room : fin.len w.restores < 1000
   pub indices_of : AreIndicesOf f w uuid indices image
 
--- how a restore may be answered
-pub data RestoreAllows (f : Formats) (w : World) (name : Bytes) : Reply → Option Image → Type 0 where
-  OpeningRestore : (o uuid : ℕ) (indices : List IndexRef) (image : Option Image) → AcceptsRestore f w name o uuid indices image → RestoreAllows f w name (AcceptedRestore o uuid indices) image
-  NotListed : (image : Option Image) → ((uuid : ℕ) → IsListed w name uuid → ⊥) → RestoreAllows f w name (Refused (NoSnapshot 0)) image
-  NamedByDelete : (uuid d : ℕ) (image : Option Image) → IsListed w name uuid → IsBeingDeleted w uuid d → RestoreAllows f w name (Refused (BeingDeleted d)) image
-  FullOfRestores : (uuid : ℕ) (image : Option Image) → IsListed w name uuid → IsSpared w uuid → 1000 ≤ fin.len w.restores → RestoreAllows f w name (Refused (TooMany 1000)) image
-
 -- ---- ask: a clone
 
 -- the snapshot has an index of this name, by the root
@@ -186,18 +179,6 @@ pub record AcceptsClone (f : Formats) (w : World) (source name : Bytes) (names :
   pub chosen_is : taken.indices ≡ chosen_refs all names
   -- its texts can be written
   pub texts : OpTexts f (cloned_op w name moment taken)
-
--- how a clone may be answered
-pub data CloneAllows (f : Formats) (w : World) (source name : Bytes) (names : List Bytes) (moment : ℕ) : Option CloneOf → Reply → Option Image → Type 0 where
-  OpeningClone : (taken : CloneOf) (o : ℕ) (image : Option Image) → AcceptsClone f w source name names moment o taken image → CloneAllows f w source name names moment (Some taken) (Accepted o) image
-  CloneUsed : (uuid : ℕ) (image : Option Image) → NoCleanup w → IsNameOf w name uuid → CloneAllows f w source name names moment None (Refused (NameInUse uuid)) image
-  SourceNotListed : (image : Option Image) → MayName w name → ((uuid : ℕ) → IsListed w source uuid → ⊥) → CloneAllows f w source name names moment None (Refused (NoSnapshot 0)) image
-  SourceDeleted : (uuid d : ℕ) (image : Option Image) → MayName w name → IsListed w source uuid → IsBeingDeleted w uuid d → CloneAllows f w source name names moment None (Refused (BeingDeleted d)) image
-  IndexMissing : (uuid place : ℕ) (image : Option Image) → MayCopy w source name uuid → IsFirstMissing w uuid names place → CloneAllows f w source name names moment None (Refused (NoIndex place)) image
-  FullOfClones : (uuid : ℕ) (image : Option Image) → MayClone w source name names uuid → 1000 ≤ open_count w → CloneAllows f w source name names moment None (Refused (TooMany 1000)) image
-  CloneSpent : (uuid : ℕ) (image : Option Image) → MayClone w source name names uuid → open_count w < 1000 → first_id (suc w.term) ≤ suc w.next_id → CloneAllows f w source name names moment None (Refused (IdsSpent w.next_id)) image
-  -- the record swap failed
-  CloneFault : (taken : CloneOf) (image : Option Image) → AcceptsClone f w source name names moment w.next_op taken image → CloneAllows f w source name names moment (Some taken) (Refused DepotFault) image
 
 -- ---- ask: a delete
 
@@ -249,16 +230,6 @@ pub record AcceptsDelete (w : World) (names : List Bytes) : Type 0 where
   pub may : MayDelete w names
   pub room : IsNewDelete w names → open_count w < 1000
 
--- how a delete may be answered: by its own op or the one that it goes into, or by the first rule that refuses it
-pub data DeleteAllows (w : World) (names : List Bytes) : Reply → Type 0 where
-  GoingInto : AcceptsDelete w names → DeleteAllows w names (Accepted (delete_number w names))
-  NotNamed : (place : ℕ) → NoCleanup w → IsFirstUnused w names place → DeleteAllows w names (Refused (NoSnapshot place))
-  CloneStands : (o : ℕ) → NoCleanup w → AreNamed w names → IsLowest (Copies w (named_uuids w names)) o → DeleteAllows w names (Refused (CloneRunning o))
-  RestoreStands : (o : ℕ) → NoCleanup w → AreNamed w names → ((p : ℕ) → Copies w (named_uuids w names) p → ⊥) → IsLowest (ReadsOne w (named_uuids w names)) o → DeleteAllows w names (Refused (RestoreRunning o))
-  FullOfOps : MayDelete w names → IsNewDelete w names → 1000 ≤ open_count w → DeleteAllows w names (Refused (TooMany 1000))
-  -- the record swap failed
-  DeleteFault : AcceptsDelete w names → DeleteAllows w names (Refused DepotFault)
-
 -- ---- ask: a cleanup
 
 -- a ticket is out under this number; those of restores are others
@@ -274,13 +245,32 @@ pub record AcceptsCleanup (w : World) : Type 0 where
   pub none_open : NoneOpen w
   pub no_ticket : (k : ℕ) → HasTicket w k → ⊥
 
--- how a cleanup may be answered where none is open
-pub data CleanupAllows (w : World) : Reply → Type 0 where
-  OpeningCleanup : AcceptsCleanup w → CleanupAllows w (Accepted w.next_op)
-  OpStands : (o : ℕ) → NoCleanup w → IsLowest (IsOpen w) o → CleanupAllows w (Refused (BusyOp o))
-  TicketStands : (k : ℕ) → NoneOpen w → IsLowest (HasTicket w) k → CleanupAllows w (Refused (BusyTicket k))
-  -- the record swap failed
-  CleanupFault : AcceptsCleanup w → CleanupAllows w (Refused DepotFault)
+-- ---- ask: a refusal by a rule
+
+-- By the first rule that stands against it a command is refused. None that is recorded is accepted while a cleanup is open, so it takes nothing.
+pub data RefusedBy (w : World) : Asked → Refusal → Type 0 where
+  Cleaning : (command : Asked) (d : ℕ) (x : Deletion) → is_recorded command ≡ true → TakesNothing command → fin.get w.deletes d ≡ Some x → x.clean ≡ true → RefusedBy w command (CleanupRunning d)
+  Used : (name : Bytes) (indices : List AskedIndex) (moment uuid : ℕ) → NoCleanup w → IsNameOf w name uuid → RefusedBy w (Snapshot name indices moment) (NameInUse uuid)
+  Full : (name : Bytes) (indices : List AskedIndex) (moment : ℕ) → NoCleanup w → IsUnused w name → 1000 ≤ open_count w → RefusedBy w (Snapshot name indices moment) (TooMany 1000)
+  AskSpent : (name : Bytes) (indices : List AskedIndex) (moment : ℕ) → NoCleanup w → IsUnused w name → open_count w < 1000 → first_id (suc w.term) ≤ w.next_id + suc (new_names w indices)
+      → RefusedBy w (Snapshot name indices moment) (IdsSpent w.next_id)
+  NotListed : (name place : Bytes) → ((uuid : ℕ) → IsListed w name uuid → ⊥) → RefusedBy w (Restore name place) (NoSnapshot 0)
+  NamedByDelete : (name place : Bytes) (uuid d : ℕ) → IsListed w name uuid → IsBeingDeleted w uuid d → RefusedBy w (Restore name place) (BeingDeleted d)
+  FullOfRestores : (name place : Bytes) (uuid : ℕ) → IsListed w name uuid → IsSpared w uuid → 1000 ≤ fin.len w.restores → RefusedBy w (Restore name place) (TooMany 1000)
+  CloneUsed : (source name : Bytes) (names : List Bytes) (moment uuid : ℕ) → NoCleanup w → IsNameOf w name uuid → RefusedBy w (Clone source name names moment None) (NameInUse uuid)
+  SourceNotListed : (source name : Bytes) (names : List Bytes) (moment : ℕ) → MayName w name → ((uuid : ℕ) → IsListed w source uuid → ⊥) → RefusedBy w (Clone source name names moment None) (NoSnapshot 0)
+  SourceDeleted : (source name : Bytes) (names : List Bytes) (moment uuid d : ℕ) → MayName w name → IsListed w source uuid → IsBeingDeleted w uuid d → RefusedBy w (Clone source name names moment None) (BeingDeleted d)
+  IndexMissing : (source name : Bytes) (names : List Bytes) (moment uuid place : ℕ) → MayCopy w source name uuid → IsFirstMissing w uuid names place → RefusedBy w (Clone source name names moment None) (NoIndex place)
+  FullOfClones : (source name : Bytes) (names : List Bytes) (moment uuid : ℕ) → MayClone w source name names uuid → 1000 ≤ open_count w → RefusedBy w (Clone source name names moment None) (TooMany 1000)
+  CloneSpent : (source name : Bytes) (names : List Bytes) (moment uuid : ℕ) → MayClone w source name names uuid → open_count w < 1000 → first_id (suc w.term) ≤ suc w.next_id
+      → RefusedBy w (Clone source name names moment None) (IdsSpent w.next_id)
+  NotNamed : (names : List Bytes) (place : ℕ) → NoCleanup w → IsFirstUnused w names place → RefusedBy w (DeleteSnapshots names) (NoSnapshot place)
+  CloneStands : (names : List Bytes) (o : ℕ) → NoCleanup w → AreNamed w names → IsLowest (Copies w (named_uuids w names)) o → RefusedBy w (DeleteSnapshots names) (CloneRunning o)
+  RestoreStands : (names : List Bytes) (o : ℕ) → NoCleanup w → AreNamed w names → ((p : ℕ) → Copies w (named_uuids w names) p → ⊥) → IsLowest (ReadsOne w (named_uuids w names)) o
+      → RefusedBy w (DeleteSnapshots names) (RestoreRunning o)
+  FullOfOps : (names : List Bytes) → MayDelete w names → IsNewDelete w names → 1000 ≤ open_count w → RefusedBy w (DeleteSnapshots names) (TooMany 1000)
+  OpStands : (o : ℕ) → NoCleanup w → IsLowest (IsOpen w) o → RefusedBy w Cleanup (BusyOp o)
+  TicketStands : (k : ℕ) → NoneOpen w → IsLowest (HasTicket w) k → RefusedBy w Cleanup (BusyTicket k)
 
 -- ---- take
 
@@ -821,23 +811,18 @@ pub data Allows (f : Formats) (part_size : ℕ) (w : World) : ℕ → Step → R
   Dropping : (k : ℕ) (image : Option Image) → Drops f w k image → SameBlobs w image → Allows f part_size w k DroppedStep HasEnded image
   Electing : (image : Option Image) → suc w.term < 2 ^ 63 → SameBlobs w image → Allows f part_size w 0 ElectStep (ElectedTerm (suc w.term)) image
   Looking : (image : Option Image) → SameBlobs w image → Allows f part_size w 0 LookStep (Looked w.root.snapshots w.safe) image
-  AskingRestore : (name place : Bytes) (reply : Reply) (image : Option Image) → RestoreAllows f w name reply image → SameBlobs w image → Allows f part_size w 0 (AskStep (Restore name place)) reply image
-  AskingClone : (source name : Bytes) (names : List Bytes) (moment : ℕ) (taken : Option CloneOf) (reply : Reply) (image : Option Image) → CloneAllows f w source name names moment taken reply image → SameBlobs w image
-      → Allows f part_size w 0 (AskStep (Clone source name names moment taken)) reply image
-  AskingDelete : (names : List Bytes) (reply : Reply) (image : Option Image) → DeleteAllows w names reply → SameBlobs w image → Allows f part_size w 0 (AskStep (DeleteSnapshots names)) reply image
-  AskingCleanup : (reply : Reply) (image : Option Image) → CleanupAllows w reply → SameBlobs w image → Allows f part_size w 0 (AskStep Cleanup) reply image
+  OpeningRestore : (name place : Bytes) (o uuid : ℕ) (indices : List IndexRef) (image : Option Image) → AcceptsRestore f w name o uuid indices image → SameBlobs w image
+      → Allows f part_size w 0 (AskStep (Restore name place)) (AcceptedRestore o uuid indices) image
+  OpeningClone : (source name : Bytes) (names : List Bytes) (moment o : ℕ) (taken : CloneOf) (image : Option Image) → AcceptsClone f w source name names moment o taken image → SameBlobs w image
+      → Allows f part_size w 0 (AskStep (Clone source name names moment (Some taken))) (Accepted o) image
+  -- it goes into its own op or into one that is open
+  GoingInto : (names : List Bytes) (image : Option Image) → AcceptsDelete w names → SameBlobs w image → Allows f part_size w 0 (AskStep (DeleteSnapshots names)) (Accepted (delete_number w names)) image
+  OpeningCleanup : (image : Option Image) → AcceptsCleanup w → SameBlobs w image → Allows f part_size w 0 (AskStep Cleanup) (Accepted w.next_op) image
   Verifying : (read : Read) (reply : Reply) (image : Option Image) → VerifyAllows f w read reply image → Allows f part_size w 0 (ReadStep read) reply image
   Reading : (k : ℕ) (read : Read) (reply : Reply) (image : Option Image) → ReadAllows f w k read reply image → SameBlobs w image → Allows f part_size w k (ReadStep read) reply image
   Pruning : (k : ℕ) (prune : Prune) (reply : Reply) (image : Option Image) → PruneAllows f w k prune reply image → Allows f part_size w k (PruneStep prune) reply image
-  -- refusals by rule; no command that is recorded is accepted while a cleanup is open, so it takes nothing
-  Cleaning : (command : Asked) (d : ℕ) (x : Deletion) (image : Option Image) → is_recorded command ≡ true → TakesNothing command → fin.get w.deletes d ≡ Some x → x.clean ≡ true → SameBlobs w image
-      → Allows f part_size w 0 (AskStep command) (Refused (CleanupRunning d)) image
-  Used : (name : Bytes) (indices : List AskedIndex) (moment uuid : ℕ) (image : Option Image) → NoCleanup w → IsNameOf w name uuid → SameBlobs w image
-      → Allows f part_size w 0 (AskStep (Snapshot name indices moment)) (Refused (NameInUse uuid)) image
-  Full : (name : Bytes) (indices : List AskedIndex) (moment : ℕ) (image : Option Image) → NoCleanup w → IsUnused w name → 1000 ≤ open_count w → SameBlobs w image
-      → Allows f part_size w 0 (AskStep (Snapshot name indices moment)) (Refused (TooMany 1000)) image
-  AskSpent : (name : Bytes) (indices : List AskedIndex) (moment : ℕ) (image : Option Image) → NoCleanup w → IsUnused w name → open_count w < 1000 → first_id (suc w.term) ≤ w.next_id + suc (new_names w indices) → SameBlobs w image
-      → Allows f part_size w 0 (AskStep (Snapshot name indices moment)) (Refused (IdsSpent w.next_id)) image
+  -- refusals by rule
+  Ruled : (command : Asked) (refusal : Refusal) (image : Option Image) → RefusedBy w command refusal → SameBlobs w image → Allows f part_size w 0 (AskStep command) (Refused refusal) image
   DrawSpent : (k n : ℕ) (image : Option Image) → MayDraw f w k n → first_id (suc w.term) ≤ w.next_id + n → SameBlobs w image → Allows f part_size w k (DrawStep n) (Refused (IdsSpent w.next_id)) image
   RaiseStale : (k : ℕ) (image : Option Image) (may : MayRaise f w k) → may.t.term ≢ w.term → SameBlobs w image → Allows f part_size w k RaiseStep (Refused (StaleTerm may.t.term w.term)) image
   SettleStale : (k n : ℕ) (t : Ticket) (s : Swap) (image : Option Image) → MaySettle f w k n t s → t.term ≢ w.term → SameBlobs w image → Allows f part_size w k SettleStep (Refused (StaleTerm t.term w.term)) image
@@ -857,6 +842,10 @@ pub data Allows (f : Formats) (part_size : ℕ) (w : World) : ℕ → Step → R
   ListFails : (k : ℕ) (from : Option Bytes) (image : Option Image) → ListsPage w k from → SameBlobs w image → Allows f part_size w k (ListStep from) (Refused DepotFault) image
   AskFails : (name : Bytes) (indices : List AskedIndex) (moment : ℕ) (image : Option Image) → Accepts f w name indices moment w.next_op → SameBlobs w image
       → Allows f part_size w 0 (AskStep (Snapshot name indices moment)) (Refused DepotFault) image
+  AskCloneFails : (source name : Bytes) (names : List Bytes) (moment : ℕ) (taken : CloneOf) (image : Option Image) → AcceptsClone f w source name names moment w.next_op taken image → SameBlobs w image
+      → Allows f part_size w 0 (AskStep (Clone source name names moment (Some taken))) (Refused DepotFault) image
+  AskDeleteFails : (names : List Bytes) (image : Option Image) → AcceptsDelete w names → SameBlobs w image → Allows f part_size w 0 (AskStep (DeleteSnapshots names)) (Refused DepotFault) image
+  AskCleanupFails : (image : Option Image) → AcceptsCleanup w → SameBlobs w image → Allows f part_size w 0 (AskStep Cleanup) (Refused DepotFault) image
   RaiseFails : (k : ℕ) (image : Option Image) → Raises f w k w.pending → SameBlobs w image → Allows f part_size w k RaiseStep (Refused DepotFault) image
   SettleFails : (k : ℕ) (image : Option Image) → Settles f w k → SameBlobs w image → Allows f part_size w k SettleStep (Refused DepotFault) image
   DropFails : (k : ℕ) (image : Option Image) → Drops f w k image → SameBlobs w image → Allows f part_size w k DroppedStep (Refused DepotFault) image

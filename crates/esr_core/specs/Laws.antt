@@ -33,6 +33,7 @@ pub mod PruneShards
 pub mod RestoreFrames
 pub mod RestoreMaps
 pub mod RestoreShards
+pub mod Rules
 pub mod StepFrames
 pub mod TakeAnswers
 pub mod UnitSteps

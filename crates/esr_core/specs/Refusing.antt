@@ -1,5 +1,5 @@
 -- How steps may be refused while no record swap has failed.
-use Rattle.std.specs.Prelude.{◌≡◌, ◌⊎◌, ℕ, true, List, Option}
+use Rattle.std.specs.Prelude.{◌≡◌, ◌⊎◌, ℕ, true, List, Option, Bool, false, T, ◌==◌}
 use Rattle.esr_model.specs.Names.{BlobName}
 use Rattle.esr_model.specs.Values.{Bytes, Has}
 use Rattle.esr_model.specs.Delete.{PrunedShard}
@@ -8,33 +8,79 @@ use Rattle.esr_core.specs.Entry.{AskedIndex, CloneOf, Asked, Snapshot, Clone, De
 use Rattle.esr_core.specs.After.{swaps_record}
 use Rattle.esr_core.specs.Allowed.{Blocks}
 
--- A step may be refused so: a command by a rule of its kind, with the place or the limit that this has, or since its ids are spent; a
+-- ---- a command, by a rule
+
+-- a rule of accepting refuses a snapshot
+abbrev pub RefusesSnapshot : Refusal → Type 0
+RefusesSnapshot (CleanupRunning op) = Unit {0}
+RefusesSnapshot (NameInUse uuid) = Unit {0}
+RefusesSnapshot (TooMany limit) = T (limit == 1000)
+RefusesSnapshot refusal = ⊥
+
+-- or a restore
+abbrev pub RefusesRestore : Refusal → Type 0
+RefusesRestore (NoSnapshot place) = T (place == 0)
+RefusesRestore (BeingDeleted op) = Unit {0}
+RefusesRestore (TooMany limit) = T (limit == 1000)
+RefusesRestore refusal = ⊥
+
+-- or a clone
+abbrev pub RefusesClone : Refusal → Type 0
+RefusesClone (CleanupRunning op) = Unit {0}
+RefusesClone (NameInUse uuid) = Unit {0}
+RefusesClone (NoSnapshot place) = T (place == 0)
+RefusesClone (BeingDeleted op) = Unit {0}
+RefusesClone (NoIndex place) = Unit {0}
+RefusesClone (TooMany limit) = T (limit == 1000)
+RefusesClone refusal = ⊥
+
+-- or a delete
+abbrev pub RefusesDelete : Refusal → Type 0
+RefusesDelete (CleanupRunning op) = Unit {0}
+RefusesDelete (NoSnapshot place) = Unit {0}
+RefusesDelete (CloneRunning op) = Unit {0}
+RefusesDelete (RestoreRunning op) = Unit {0}
+RefusesDelete (TooMany limit) = T (limit == 1000)
+RefusesDelete refusal = ⊥
+
+-- or a cleanup
+abbrev pub RefusesCleanup : Refusal → Type 0
+RefusesCleanup (CleanupRunning op) = Unit {0}
+RefusesCleanup (BusyOp op) = Unit {0}
+RefusesCleanup refusal = ⊥
+
+-- or any command
+abbrev pub IsByRule : Asked → Refusal → Type 0
+IsByRule (Snapshot name indices moment) refusal = RefusesSnapshot refusal
+IsByRule (Restore name place) refusal = RefusesRestore refusal
+IsByRule (Clone source name names moment taken) refusal = RefusesClone refusal
+IsByRule (DeleteSnapshots names) refusal = RefusesDelete refusal
+IsByRule Cleanup refusal = RefusesCleanup refusal
+
+-- the rules of some command give the refusal
+abbrev pub is_rule : Refusal → Bool
+is_rule (CleanupRunning op) = true
+is_rule (NameInUse uuid) = true
+is_rule (TooMany limit) = true
+is_rule (NoSnapshot place) = true
+is_rule (NoIndex place) = true
+is_rule (BeingDeleted op) = true
+is_rule (CloneRunning op) = true
+is_rule (RestoreRunning op) = true
+is_rule (BusyOp op) = true
+is_rule refusal = false
+
+-- ---- each step
+
+-- A step may be refused so: a command by a rule of its kind, or since its ids are spent, and a cleanup also since a ticket is out; a
 -- step that draws ids or begins a generation or a term, since these are spent; a record swap of a ticket, as its term is over; a
 -- commit, as its name is taken; and a call of the container, as it failed. A step that is none of these isn't refused.
 pub data MayRefuse : Step → Refusal → Type 0 where
-  InCleanup : (command : Asked) (op : ℕ) → is_recorded command ≡ true → MayRefuse (AskStep command) (CleanupRunning op)
-  InUse : (name : Bytes) (indices : List AskedIndex) (moment uuid : ℕ) → MayRefuse (AskStep (Snapshot name indices moment)) (NameInUse uuid)
-  InFull : (name : Bytes) (indices : List AskedIndex) (moment : ℕ) → MayRefuse (AskStep (Snapshot name indices moment)) (TooMany 1000)
-  NoIdForAsk : (name : Bytes) (indices : List AskedIndex) (moment next : ℕ) → MayRefuse (AskStep (Snapshot name indices moment)) (IdsSpent next)
-  AskFault : (name : Bytes) (indices : List AskedIndex) (moment : ℕ) → MayRefuse (AskStep (Snapshot name indices moment)) DepotFault
-  CloneInUse : (source name : Bytes) (names : List Bytes) (moment uuid : ℕ) (taken : Option CloneOf) → MayRefuse (AskStep (Clone source name names moment taken)) (NameInUse uuid)
-  NoSource : (source name : Bytes) (names : List Bytes) (moment : ℕ) (taken : Option CloneOf) → MayRefuse (AskStep (Clone source name names moment taken)) (NoSnapshot 0)
-  SourceInDelete : (source name : Bytes) (names : List Bytes) (moment op : ℕ) (taken : Option CloneOf) → MayRefuse (AskStep (Clone source name names moment taken)) (BeingDeleted op)
-  NoSuchIndex : (source name : Bytes) (names : List Bytes) (moment place : ℕ) (taken : Option CloneOf) → MayRefuse (AskStep (Clone source name names moment taken)) (NoIndex place)
-  CloneInFull : (source name : Bytes) (names : List Bytes) (moment : ℕ) (taken : Option CloneOf) → MayRefuse (AskStep (Clone source name names moment taken)) (TooMany 1000)
-  NoIdForClone : (source name : Bytes) (names : List Bytes) (moment next : ℕ) (taken : Option CloneOf) → MayRefuse (AskStep (Clone source name names moment taken)) (IdsSpent next)
-  AskCloneFault : (source name : Bytes) (names : List Bytes) (moment : ℕ) (taken : Option CloneOf) → MayRefuse (AskStep (Clone source name names moment taken)) DepotFault
-  NotNamed : (names : List Bytes) (place : ℕ) → MayRefuse (AskStep (DeleteSnapshots names)) (NoSnapshot place)
-  CloneStands : (names : List Bytes) (op : ℕ) → MayRefuse (AskStep (DeleteSnapshots names)) (CloneRunning op)
-  RestoreStands : (names : List Bytes) (op : ℕ) → MayRefuse (AskStep (DeleteSnapshots names)) (RestoreRunning op)
-  FullOfOps : (names : List Bytes) → MayRefuse (AskStep (DeleteSnapshots names)) (TooMany 1000)
-  AskDeleteFault : (names : List Bytes) → MayRefuse (AskStep (DeleteSnapshots names)) DepotFault
-  OpStands : (op : ℕ) → MayRefuse (AskStep Cleanup) (BusyOp op)
+  ByRule : (command : Asked) (refusal : Refusal) → IsByRule command refusal → MayRefuse (AskStep command) refusal
   TicketStands : (ticket : ℕ) → MayRefuse (AskStep Cleanup) (BusyTicket ticket)
-  AskCleanupFault : MayRefuse (AskStep Cleanup) DepotFault
-  NotListed : (name place : Bytes) → MayRefuse (AskStep (Restore name place)) (NoSnapshot 0)
-  NamedByDelete : (name place : Bytes) (op : ℕ) → MayRefuse (AskStep (Restore name place)) (BeingDeleted op)
-  FullOfRestores : (name place : Bytes) → MayRefuse (AskStep (Restore name place)) (TooMany 1000)
+  NoIdForAsk : (name : Bytes) (indices : List AskedIndex) (moment next : ℕ) → MayRefuse (AskStep (Snapshot name indices moment)) (IdsSpent next)
+  NoIdForClone : (source name : Bytes) (names : List Bytes) (moment next : ℕ) (taken : Option CloneOf) → MayRefuse (AskStep (Clone source name names moment taken)) (IdsSpent next)
+  AskFault : (command : Asked) → is_recorded command ≡ true → MayRefuse (AskStep command) DepotFault
   NoIds : (count next : ℕ) → MayRefuse (DrawStep count) (IdsSpent next)
   BeginFault : (name : BlobName) → MayRefuse (BeginStep name) DepotFault
   CommitFault : (name : BlobName) → MayRefuse (CommitStep name) DepotFault

@@ -117,17 +117,8 @@ is_some : {A : Type 0} (o : Option A) (x : A) → o ≡ Some x → IsSome o
 is_some {A} o x e = subst (λ (p : Option A). IsSome p) (sym e) refl
 
 named : (z : BlobName) → name_of (code_name z) ≡ z
-named (Root n) = refl
-named Latest = refl
-named (Snap u) = refl
-named (Meta u) = refl
-named (IndexMeta i u) = refl
 named (ShardSnap i k u) = refl
-named (ShardIndex i k g) = refl
-named (File i k x) = refl
-named (Part i k x p) = refl
-named (TestMaster v) = refl
-named (TestNode v w) = refl
+named z = refl
 
 module _ (f : Formats) (root : RootData) (read : List (BlobName × Bytes)) (now : List HeldShard) (once : IsOneEach root.indices) (is : IsNow f root read now) where
   now_each : HasEach root now

@@ -1,12 +1,12 @@
 -- From the settle of a delete or cleanup to its end.
-use Rattle.std.proofs.Common.{◌≡◌, ◌≤◌, ◌↔◌, ⊎_elim, ℕ, Bool, true, false, List, map, Some, None, Result, Ok, Err, OnOk, OnErr, refl, sym, ap, ◌∙◌, subst}
+use Rattle.std.proofs.Common.{◌≡◌, ◌≤◌, ◌↔◌, ⊎_elim, ℕ, Bool, true, false, List, map, Some, Result, Ok, Err, OnOk, OnErr, refl, sym, ap, ◌∙◌, subst}
 use Rattle.std.specs.List.{AllByRecursion}
 use Rattle.esr_model.specs.Lists.{Has-mapped, Has-map, all_has}
 use Rattle.esr_names.specs.declared.blob.BlobName.{BlobName as CodeName}
 use Rattle.esr_names.specs.Layout.{IsName}
 use Rattle.esr_model.specs.Names.{BlobName}
 use Rattle.esr_model.specs.Values.{Has, RootData, Formats}
-use Rattle.esr_core.specs.World.{Ticket, Work, Swap, Shard, Finalize, Deleting, Drop}
+use Rattle.esr_core.specs.World.{Ticket, Work, Swap, Deleting}
 use Rattle.esr_core.specs.Pruning.{doomed_as, doomed_by, dooms}
 use Rattle.esr_core.specs.Past.{IsRemoval}
 use Rattle.esr_core.specs.Allowed.{HasPutLatest}
@@ -35,10 +35,7 @@ as_settled f t uuids s true = refl
 
 doomed_settled : (f : Formats) (t : Ticket) (w : Work) → doomed_by f (record t { settled = true }) w ≡ doomed_by f t w
 doomed_settled f t (Deleting uuids (Some s)) = as_settled f t uuids s t.clean
-doomed_settled f t (Deleting uuids None) = refl
-doomed_settled f t (Shard index number) = refl
-doomed_settled f t (Finalize info results made) = refl
-doomed_settled f t Drop = refl
+doomed_settled f t w = refl
 
 pub dooms_settled : (f : Formats) (old new : Ticket) (names : List BlobName) → new ≡ record old { settled = true } → names ≡ dooms f old → names ≡ dooms f new
 dooms_settled f old new names is names_are = names_are ∙ sym (doomed_settled f old old.work) ∙ ap (dooms f) (sym is)

@@ -23,16 +23,14 @@ use Rattle.esr_delete.proofs.Passing.{halts_stops, settle_stops, drop_stops}
 -- an early end is one at the settle
 given_halted : {S F H T : Type 0} (clean : Bool) (e : Evidence S F H T) (s : Start) (old mid new : List Moment) (who : ℕ) (result : UnitRefusal) → ticket_of s mid who ≡ ticket_of s old who → IsGivenUp hands.Delete e s mid new who result
     → IsHalted clean e s old new who result
-given_halted clean e s old mid new who (units.Failed why) same given = (inl (given.0 ∙ ap (λ (t : Ticket). record t { out = false }) same), given.1)
-given_halted clean e s old mid new who units.Stale same given = (inl (given.0 ∙ ap (λ (t : Ticket). record t { out = false }) same), given.1)
 given_halted clean e s old mid new who (units.Stopped refusal) same given = (inl (inl (given.0 ∙ same)), halts_stops clean s new who refusal given.1)
+given_halted clean e s old mid new who result same given = (inl (given.0 ∙ ap (λ (t : Ticket). record t { out = false }) same), given.1)
 
 -- or one after it
 pub given_late : {S F H T : Type 0} (e : Evidence S F H T) (s : Start) (old mid new : List Moment) (who : ℕ) (result : UnitRefusal) → ticket_of s mid who ≡ ticket_of s old who → IsGivenUp hands.Delete e s mid new who result
     → IsCleanRefused e s old new who result
-given_late e s old mid new who (units.Failed why) same given = (given.0 ∙ ap (λ (t : Ticket). record t { out = false }) same, given.1)
-given_late e s old mid new who units.Stale same given = (given.0 ∙ ap (λ (t : Ticket). record t { out = false }) same, given.1)
 given_late e s old mid new who (units.Stopped refusal) same given = (inl (given.0 ∙ same), halts_stops true s new who refusal given.1)
+given_late e s old mid new who result same given = (given.0 ∙ ap (λ (t : Ticket). record t { out = false }) same, given.1)
 
 -- that of the settle
 pub settle_halted : {S F H T : Type 0} (clean : Bool) (e : Evidence S F H T) (s : Start) (old mid new : List Moment) (who : ℕ) (refusal : StepRefusal) (result : UnitRefusal)
@@ -57,9 +55,8 @@ drop_refused e s old mid new who refusal result left refused (inr (other, given)
 -- what went before left the ticket as it was
 pub clean_refused_on : {S F H T : Type 0} (e : Evidence S F H T) (s : Start) (old mid new : List Moment) (who : ℕ) (result : UnitRefusal) → ticket_of s mid who ≡ ticket_of s old who → IsCleanRefused e s mid new who result
     → IsCleanRefused e s old new who result
-clean_refused_on e s old mid new who (units.Failed why) same h = (h.0 ∙ ap (λ (t : Ticket). record t { out = false }) same, h.1)
-clean_refused_on e s old mid new who units.Stale same h = (h.0 ∙ ap (λ (t : Ticket). record t { out = false }) same, h.1)
 clean_refused_on e s old mid new who (units.Stopped refusal) same h = (subst (λ (t : Ticket). IsStillOrEnded new who refusal t (ticket_of s new who)) same h.0, h.1)
+clean_refused_on e s old mid new who result same h = (h.0 ∙ ap (λ (t : Ticket). record t { out = false }) same, h.1)
 
 -- ---- after the settle
 
@@ -70,12 +67,11 @@ left_late clean log who refusal old mid new cleans settled (inr (ended, fell)) =
 
 clean_halted : {S F H T : Type 0} (clean : Bool) (e : Evidence S F H T) (s : Start) (old mid new : List Moment) (who : ℕ) (result : UnitRefusal) → clean ≡ true → ticket_of s mid who ≡ record (ticket_of s old who) { settled = true }
     → IsCleanRefused e s mid new who result → IsHalted clean e s old new who result
-clean_halted clean e s old mid new who (units.Failed why) cleans settled h = (inr (cleans, h.0 ∙ ap (λ (t : Ticket). record t { out = false }) settled), h.1)
-clean_halted clean e s old mid new who units.Stale cleans settled h = (inr (cleans, h.0 ∙ ap (λ (t : Ticket). record t { out = false }) settled), h.1)
 clean_halted clean e s old mid new who (units.Stopped refusal) cleans settled h = (
   left_late clean new who refusal (ticket_of s old who) (ticket_of s mid who) (ticket_of s new who) cleans settled h.0,
   subst (λ (c : Bool). Stops c s new who refusal) (sym cleans) h.1,
 )
+clean_halted clean e s old mid new who result cleans settled h = (inr (cleans, h.0 ∙ ap (λ (t : Ticket). record t { out = false }) settled), h.1)
 
 pub late_halted : {S F H T : Type 0} (clean : Bool) (e : Evidence S F H T) (s : Start) (old mid new : List Moment) (who : ℕ) (result : UnitRefusal) → ticket_of s mid who ≡ record (ticket_of s old who) { settled = true }
     → IsLateRefused clean e s mid new who result → IsHalted clean e s old new who result

@@ -112,10 +112,6 @@ notes_on s a b c xs ys first second = record {
 }
 
 -- of the same snapshots
-pub notes_as : (s : Start) (a b : Ticket) (f : Formats) (read : List (BlobName × Bytes)) (us vs : List ℕ) (first : ℕ) (shards : List PrunedShard) → us ≡ vs → Notes s a b (pruned_blobs f read us first shards)
-    → Notes s a b (pruned_blobs f read vs first shards)
-notes_as s a b f read us vs first shards same notes = subst (λ (ws : List ℕ). Notes s a b (pruned_blobs f read ws first shards)) same notes
-
 pub notes_none : (s : Start) (t : Ticket) → Notes s t t []
 notes_none s t = record { wrote = t.wrote; from = λ tells b has. inl has; is = refl }
 
@@ -141,9 +137,8 @@ blobs_more f read left first (x ∷ xs) p =
 
 if_both : (a b : Bool) (n : ℕ) → (if a then suc (if b then suc n else n) else (if b then suc n else n)) ≡ (if b then suc (if a then suc n else n) else (if a then suc n else n))
 if_both true true n = refl
-if_both true false n = refl
 if_both false true n = refl
-if_both false false n = refl
+if_both a b n = refl
 
 count_more : (xs : List PrunedShard) (p : PrunedShard) → kept_count (xs ++ p ∷ []) ≡ next_after (kept_count xs) p
 count_more [] p = refl

@@ -29,11 +29,9 @@ use Rattle.esr_delete.proofs.Going.{worked_listed}
 -- ---- the last name of a page
 
 last_at : (page : List Listed) (n : ℕ) → n + 1 ≡ length page → option_map (λ (l : Listed). l.name) (slice_get page n) ≡ last_text (page_of page)
-last_at [] n e = absurd (omega (arith, e))
 last_at (b ∷ []) zero e = refl
-last_at (b ∷ []) (suc n) e = absurd (omega (arith, e))
-last_at (b ∷ c ∷ rest) zero e = absurd (omega (arith, e))
 last_at (b ∷ c ∷ rest) (suc n) e = last_at (c ∷ rest) n (omega (arith, e))
+last_at page n e = absurd (omega (arith, e))
 
 pub last_is : (page : List Listed) → option_map (λ (l : Listed). l.name) (slice_get page (length page - 1)) ≡ last_text (page_of page)
 last_is [] = refl
@@ -41,10 +39,9 @@ last_is (b ∷ rest) = last_at (b ∷ rest) (length (b ∷ rest) - 1) (omega ari
 
 -- after a page that isn't empty
 last_of : (before page : List BlobSize) → 1 ≤ length page → last_text page ≡ last_text (before ++ page)
-last_of [] page some = refl
 last_of (b ∷ before) [] some = absurd (omega (arith, some))
-last_of (b ∷ []) (c ∷ page) some = refl
 last_of (b ∷ d ∷ before) (c ∷ page) some = last_of (d ∷ before) (c ∷ page) some
+last_of before page some = refl
 
 pages_join : (pages next : List Listed) → page_of pages ++ page_of next ≡ page_of (pages ++ next)
 pages_join pages next = sym (map-append blob_size_of pages next)

@@ -162,23 +162,7 @@ removal_fault names refusal (RemoveDoomedFault ns) = refl
 
 fault_is : (refusal : EntryRefusal) → refusal_of refusal ≡ DepotFault → refusal ≡ refusals.DepotFault
 fault_is refusals.DepotFault is = refl
-fault_is (refusals.CleanupRunning op) is = absurd cc
-fault_is (refusals.NameInUse uuid) is = absurd cc
-fault_is (refusals.TooMany limit) is = absurd cc
-fault_is (refusals.Deposed entry) is = absurd cc
-fault_is (refusals.Aborted by) is = absurd cc
-fault_is (refusals.StaleTerm own now) is = absurd cc
-fault_is (refusals.GenerationsSpent number) is = absurd cc
-fault_is (refusals.TermsSpent number) is = absurd cc
-fault_is (refusals.IdsSpent next) is = absurd cc
-fault_is (refusals.NameTaken name) is = absurd cc
-fault_is (refusals.NoSnapshot place) is = absurd cc
-fault_is (refusals.NoIndex place) is = absurd cc
-fault_is (refusals.BeingDeleted op) is = absurd cc
-fault_is (refusals.CloneRunning op) is = absurd cc
-fault_is (refusals.RestoreRunning op) is = absurd cc
-fault_is (refusals.BusyOp op) is = absurd cc
-fault_is (refusals.BusyTicket ticket) is = absurd cc
+fault_is refusal is = absurd cc
 
 removal_halts : (s : Start) (old new : List Moment) (who : ℕ) (names : List BlobName) (e : StepRefusal) → RefusesSo → IsDeletes (ticket_of s new who) → (e ≡ steps.Refused refusals.DepotFault → ⊥)
     → IsRefusedBy s old new who (PruneStep (RemoveDoomed names)) e → Halts s new who e

@@ -89,8 +89,7 @@ fresh_of s log who names some unnamed e has same =
   where
     shared : (was names : List BlobName) → 1 ≤ length names → ShareName was names → (name : BlobName) × Has was name × Has names name
     shared [] [] some share = absurd (omega (arith, some))
-    shared [] (x ∷ names) some share = share
-    shared (y ∷ was) names some share = share
+    shared was names some share = share
 
 pub fresh_removal : (s : Start) (log : List Moment) (who : ℕ) (names batch : List CodeName) (n : ℕ) → batch ≡ take n names → 1 ≤ n → n ≤ length names → AreUnnamed s log who (map name_of names)
     → IsFresh s log who (PruneStep (RemoveDoomed (map name_of batch)))

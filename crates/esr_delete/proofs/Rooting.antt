@@ -41,6 +41,5 @@ latest_there s log who false false on h cleans = absurd (true≢false (sym clean
 
 -- only a cleanup doesn't go on, where the container failed in that
 pub latest_failed : (s : Start) (log : List Moment) (who : ℕ) (put clean : Bool) → (put || not clean) ≡ false → IsLatestPut s log who put → (clean ≡ true) × HadLatestFault s log who
-latest_failed s log who true clean on h = absurd (true≢false on)
 latest_failed s log who false true on h = (refl, h)
-latest_failed s log who false false on h = absurd (true≢false on)
+latest_failed s log who put clean on h = absurd (true≢false on)

@@ -92,12 +92,11 @@ ended_unsettled old mid new unsettled worked ended = record {
 pub given_refused : {S F H T : Type 0} (e : Evidence S F H T) (s : Start) (old mid new : List Moment) (who : ℕ) (result : UnitRefusal) → (ticket_of s old who).out ≡ true → (ticket_of s old who).settled ≡ false
     → Worked (ticket_of s old who) (ticket_of s mid who)
     → IsGivenUp hands.Delete e s mid new who result → IsUnitRefused e s old new who result
-given_refused e s old mid new who (units.Failed why) out unsettled worked h = (inl (ended_unsettled (ticket_of s old who) (ticket_of s mid who) (ticket_of s new who) unsettled worked h.0), h.1)
-given_refused e s old mid new who units.Stale out unsettled worked h = (inl (ended_unsettled (ticket_of s old who) (ticket_of s mid who) (ticket_of s new who) unsettled worked h.0), h.1)
 given_refused e s old mid new who (units.Stopped refusal) out unsettled worked h = (
   inl (ap (λ (t : Ticket). t.out) (h.0 ∙ worked.is) ∙ out, inl (subst (λ (t : Ticket). Worked (ticket_of s old who) t) (sym h.0) worked)),
   halts_stops (ticket_of s old who).clean s new who refusal h.1,
 )
+given_refused e s old mid new who result out unsettled worked h = (inl (ended_unsettled (ticket_of s old who) (ticket_of s mid who) (ticket_of s new who) unsettled worked h.0), h.1)
 
 -- ---- it has settled, or stopped at its settle or later
 
@@ -128,12 +127,11 @@ left_at s log who refusal old mid new clean is (inr (cleans, ended, fell)) = inr
 
 halted_as : {S F H T : Type 0} (e : Evidence S F H T) (s : Start) (old mid new : List Moment) (who : ℕ) (clean : Bool) (result : UnitRefusal) → IsDone s (ticket_of s old who) (ticket_of s mid who) clean → IsHalted clean e s mid new who result
     → IsUnitRefused e s old new who result
-halted_as e s old mid new who clean (units.Failed why) is h = (ended_at s (ticket_of s old who) (ticket_of s mid who) (ticket_of s new who) clean is h.0, h.1)
-halted_as e s old mid new who clean units.Stale is h = (ended_at s (ticket_of s old who) (ticket_of s mid who) (ticket_of s new who) clean is h.0, h.1)
 halted_as e s old mid new who clean (units.Stopped refusal) is h = (
   left_at s new who refusal (ticket_of s old who) (ticket_of s mid who) (ticket_of s new who) clean is h.0,
   subst (λ (c : Bool). Stops c s new who refusal) (sym is.mode) h.1,
 )
+halted_as e s old mid new who clean result is h = (ended_at s (ticket_of s old who) (ticket_of s mid who) (ticket_of s new who) clean is h.0, h.1)
 
 pub halted : {S F H T : Type 0} (e : Evidence S F H T) (s : Start) (old mid new : List Moment) (who : ℕ) (clean : Bool) (root : RootData) (uuids : List ℕ) (result : UnitRefusal) → IsUnplanned (ticket_of s old who) clean root uuids
     → Worked (ticket_of s old who) (ticket_of s mid who)

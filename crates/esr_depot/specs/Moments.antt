@@ -12,21 +12,13 @@ use Rattle.esr_depot.specs.Calls.{Change, Passed, Stays, Called, is_wanting, has
 module _ {T : Type 0} (old new : Look) (ok : T → Change) (may : Change) where
   -- time doesn't go back
   pub called_later : (result : Result T CallError) → Called old new ok may result → old.clock ≤ new.clock
-  called_later (Ok x) called = (called.passed refl).later
   called_later (Err Memory) called = omega (arith, (called.stays refl).clock)
-  called_later (Err Failed) called = (called.passed refl).later
-
-  -- the images of earlier moments stand
-  pub called_past : (result : Result T CallError) → Called old new ok may result → (k : ℕ) → k ≤ old.clock → new.at k ≡ old.at k
-  called_past (Ok x) called k le = (called.passed refl).past k le
-  called_past (Err Memory) called k le = (called.stays refl).at k
-  called_past (Err Failed) called k le = (called.passed refl).past k le
+  called_later result called = (called.passed refl).later
 
   -- since an earlier moment there is no image but the old ones and what the call may leave
   pub called_since : (result : Result T CallError) → Called old new ok may result → (t : ℕ) (i : Image) → t ≤ old.clock → new.since t i → old.since t i ⊎ may (now old) (Some i)
-  called_since (Ok x) called t i le left = (called.passed refl).since t i le left
   called_since (Err Memory) called t i le left = inl ((called.stays refl).since t i left)
-  called_since (Err Failed) called t i le left = (called.passed refl).since t i le left
+  called_since result called t i le left = (called.passed refl).since t i le left
 
 -- ---- how a container shows what a call did
 

@@ -45,15 +45,13 @@ module _ (p : Size → Bool) where
 -- ---- the first ones
 
 in_take : (n : ℕ) (sizes : List Size) (s : Size) → Has (take n sizes) s → Has sizes s
-in_take zero sizes s has = absurd has
-in_take (suc n) [] s has = absurd has
 in_take (suc n) (t ∷ rest) s (inl same) = inl same
 in_take (suc n) (t ∷ rest) s (inr has) = inr (in_take n rest s has)
+in_take n sizes s has = absurd has
 
 rising_take : (n : ℕ) (sizes : List Size) → IsRising sizes → IsRising (take n sizes)
-rising_take zero sizes rising = tt
-rising_take (suc n) [] rising = tt
 rising_take (suc n) (t ∷ rest) rising = (λ u h. rising.0 u (in_take n rest u h), rising_take n rest rising.1)
+rising_take n sizes rising = tt
 
 -- one of a rising list is among the first, or these are as many as asked for, and it comes after their last
 first_or_later : (n : ℕ) (sizes : List Size) (s : Size) → IsRising sizes → Has sizes s → Has (take (suc n) sizes) s ⊎ ((length (take (suc n) sizes) ≡ suc n) × IsAfter (last_name (take (suc n) sizes)) s.0)
@@ -81,9 +79,6 @@ is_after_is (Some from) name later = ap is_lt later
 
 at_most : (n : ℕ) (sizes : List Size) → length (take n sizes) ≤ n
 at_most n sizes = omega (arith, length-take n sizes)
-
-pub no_page : (after : Option (List ℕ)) → IsPage after []
-no_page after = record { few = omega arith; follow = λ s has. absurd has; rising = tt }
 
 -- the test that a page makes of each name
 abbrev passes : Option (List ℕ) → Size → Bool

@@ -6,12 +6,12 @@ use std::alloc::{AllocError, AllocFailed};
 use thiserror::Error;
 
 /// The object failed: its count of failures has risen.
-#[derive(Clone, Copy, Debug, PartialEq, Eq, Drop, Error)]
+#[derive(Clone, Copy, Debug, Drop, Error)]
 #[error("the object failed")]
 pub struct Failed;
 
 /// Why a call that takes memory doesn't answer.
-#[derive(Clone, Copy, Debug, PartialEq, Eq, Error)]
+#[derive(Clone, Copy, Debug, Error)]
 pub enum CallError {
     /// There was no memory. The object is as it was.
     #[error("out of memory")]

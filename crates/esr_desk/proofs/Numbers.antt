@@ -13,7 +13,7 @@ use Rattle.esr_core.specs.Entry.{Step, TakeStep, Reply, Given, GivenShard, Given
 use Rattle.esr_core.specs.After.{shard_of, taken_shard, taken_restore_shard, taken_restore, taken_by, answered, after}
 use Rattle.esr_core.specs.Allowed.{Gives, Allowed, Blocks, ByFailedSwap, ByDelete, IsBlocked}
 use Rattle.esr_core.specs.Causes.{TakeGave}
-use Rattle.esr_core.specs.Changes.{StepChange, NoChange, NewOp, NewDeletion, MergedDeletion, NewRestore, NewTicket, NewReader, OwnTicket, Settlement, UnitEnd, DeletionFailure, OpDrop, Election, ReaderFetch, ReaderEnd, PlainDraw, TestBlob, SwapFault, Maker, ClientStep, ReaderStep, UnitStep}
+use Rattle.esr_core.specs.Changes.{StepChange, NoChange, NewTicket, NewReader, OwnTicket, Settlement, UnitEnd, DeletionFailure, OpDrop, ReaderFetch, ReaderEnd, SwapFault, Maker, ClientStep, ReaderStep, UnitStep}
 use Rattle.esr_core.specs.History.{world_from, IsLegal}
 use Rattle.esr_desk.specs.Start.{Start, formats_of, world_of, Legal}
 use Rattle.esr_desk.specs.Once.{WasMade, HasMadeNone}
@@ -78,10 +78,6 @@ module _ (least : ℕ) where
 
   numbered_step : (f : Formats) (w : World) (who : ℕ) (step : Step) (new : World) → StepChange f w who step new → Numbered least w → Numbered least new
   numbered_step f w who step new NoChange n = n
-  numbered_step f w who step new (NewOp asks op completed next_id is up) n = record { next = n.next; tickets = n.tickets; readers = n.readers }
-  numbered_step f w who step new (NewDeletion asks ops x aborts clean) n = record { next = n.next; tickets = n.tickets; readers = n.readers }
-  numbered_step f w who step new (MergedDeletion asks ops d x v aborts is clean failed) n = record { next = n.next; tickets = n.tickets; readers = n.readers }
-  numbered_step f w who step new (NewRestore asks r) n = record { next = n.next; tickets = n.tickets; readers = n.readers }
   numbered_step f w who step new (NewTicket takes t fresh ops same) n = record { next = later w n; tickets = more_numbered w t n; readers = more_readers w n }
   numbered_step f w who step new (NewReader takes o r s is) n = record { next = later w n; tickets = more_tickets w n; readers = put_reader w (reader_of o r s) n }
   numbered_step f w who step new (OwnTicket t v is same settled next_id pending ids roots) n = record { next = n.next; tickets = put_numbered w who t v n is; readers = n.readers }
@@ -89,14 +85,12 @@ module _ (least : ℕ) where
   numbered_step f w who step new (UnitEnd t op v completed is op_is same) n = record { next = n.next; tickets = put_numbered w who t (record t { out = false }) n is; readers = n.readers }
   numbered_step f w who step new (DeletionFailure t x is x_is) n = record { next = n.next; tickets = put_numbered w who t (record t { out = false }) n is; readers = n.readers }
   numbered_step f w who step new (OpDrop drops t is) n = record { next = n.next; tickets = put_numbered w who t (record t { out = false }) n is; readers = n.readers }
-  numbered_step f w who step new (Election elects) n = record { next = n.next; tickets = n.tickets; readers = n.readers }
   numbered_step f w who step new (ReaderFetch q name bytes is) n = record { next = n.next; tickets = n.tickets; readers = put_readers w who q (read_more q name bytes) n is }
   numbered_step f w who step new (ReaderEnd q r state is r_is) n = record { next = n.next; tickets = n.tickets; readers = put_readers w who q (record q { out = false }) n is }
-  numbered_step f w who step new (PlainDraw next_id pending ids roots) n = record { next = n.next; tickets = n.tickets; readers = n.readers }
-  numbered_step f w who step new (TestBlob name commits) n = record { next = n.next; tickets = n.tickets; readers = n.readers }
   numbered_step f w who step new (SwapFault swaps up change) n =
       let then_is = numbered_step f w who step up change n in
       record { next = then_is.next; tickets = then_is.tickets; readers = then_is.readers }
+  numbered_step f w who step new other n = record { next = n.next; tickets = n.tickets; readers = n.readers }
 
   numbered_after : Changes → (f : Formats) (w : World) (m : Moment) → Numbered least w → Numbered least (after f w m)
   numbered_after law f w m n =
@@ -150,13 +144,10 @@ next_restore w o r s None is = absurd cc
 next_restore w o r s (Some z) is = refl
 
 next_given : (f : Formats) (w : World) (o : ℕ) (unit : Given) (found : Option Op) → found ≡ fin.get w.ops o → Gives f w o unit → (taken_by f w o unit found).next_ticket ≡ suc w.next_ticket
-next_given f w o (GivenShard index number base) None is g = absurd (none_some (is ∙ g.ready.op_there))
 next_given f w o (GivenShard index number base) (Some op) is g =
     ap (λ (p : Op). (taken_shard w o p base (shard_of p.shards index number)).next_ticket) (some_same (is ∙ g.ready.op_there)) ∙ next_shard w o g.op base g.s (shard_of g.op.shards index number) g.found
-next_given f w o (GivenClone index number source base) None is g = absurd (none_some (is ∙ g.ready.op_there))
 next_given f w o (GivenClone index number source base) (Some op) is g =
     ap (λ (p : Op). (taken_shard w o p base (shard_of p.shards index number)).next_ticket) (some_same (is ∙ g.ready.op_there)) ∙ next_shard w o g.op base g.s (shard_of g.op.shards index number) g.found
-next_given f w o (GivenFinalize info results) None is g = absurd (none_some (is ∙ g.ready.op_there))
 next_given f w o (GivenFinalize info results) (Some op) is g = refl
 next_given f w o GivenDrop None is g = refl
 next_given f w o GivenDrop (Some op) is g = refl
@@ -166,6 +157,7 @@ next_given f w o (GivenDelete uuids) None is g = refl
 next_given f w o (GivenDelete uuids) (Some op) is g = refl
 next_given f w o GivenCleanup None is g = refl
 next_given f w o GivenCleanup (Some op) is g = refl
+next_given f w o unit found is g = absurd (none_some (is ∙ g.ready.op_there))
 
 next_after : (f : Formats) (w : World) (m : Moment) (ticket op : ℕ) (unit : Given) → TakeGave f w m.entry.who m.entry.step ticket op unit → m.entry.reply ≡ Gave ticket op unit → (after f w m).next_ticket ≡ suc w.next_ticket
 next_after f w m ticket op unit gift is =

@@ -146,9 +146,8 @@ own_first : (entries : List Entry) (x : Entry) → is_counted x.reply ≡ true �
 own_first entries x counted old = by (is_counted x.reply) counted
   where
     there : (mine anew : Bool) → mine ≡ true → anew ≡ false → (if mine then (if anew then [] else x ∷ entries_by entries x.who) else entries_by entries x.who) ≡ x ∷ entries_by entries x.who
-    there true true mine anew = absurd cc
     there true false mine anew = refl
-    there false anew mine last = absurd cc
+    there other rest mine anew = absurd cc
 
     here : entries_by (x ∷ entries) x.who ≡ x ∷ entries_by entries x.who
     here = ⊎_elim

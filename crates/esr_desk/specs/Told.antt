@@ -268,9 +268,8 @@ before_next None (Some y) (Some z) first second = tt
 before_next (Some x) (Some y) (Some z) first second = nat_list_cmp_total.trans x y z first second
 
 last_append : (xs : List BlobSize) (b : BlobSize) (rest : List BlobSize) → last_text (xs ++ b ∷ rest) ≡ last_text (b ∷ rest)
-last_append [] b rest = refl
-last_append (x ∷ []) b rest = refl
 last_append (x ∷ y ∷ xs) b rest = last_append (y ∷ xs) b rest
+last_append xs b rest = refl
 
 -- the last text of some blobs is that of one of them
 last_has : (b : BlobSize) (rest : List BlobSize) → (x : BlobSize) × Has (b ∷ rest) x × (last_text (b ∷ rest) ≡ Some x.text)

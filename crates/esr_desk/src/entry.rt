@@ -118,7 +118,6 @@ pub struct CloneOf {
 }
 
 /// What was asked.
-#[derive(Drop)]
 pub enum Step {
     Ask {
         command: Command,
@@ -169,6 +168,31 @@ pub enum Step {
     },
 }
 
+impl Drop for Step {
+    // Not derived: each crate above would prove a derived one again.
+    fn drop(self) {
+        match self {
+            Step::Ask { command: _command } => {}
+            Step::AskClone {
+                source: _source,
+                name: _name,
+                indices: _indices,
+                moment: _,
+                taken: _taken,
+            } => {}
+            Step::Draw { count: _ } => {}
+            Step::Begin { name: _ } | Step::Commit { name: _ } | Step::Fetch { name: _ } => {}
+            Step::List { after: _after } => {}
+            Step::Done { result: _ } => {}
+            Step::Failed { why: _ } => {}
+            Step::Read { read: _read } => {}
+            Step::Prune { prune: _prune } => {}
+            Step::Take | Step::Latest | Step::Raise | Step::Settle => {}
+            Step::Finish | Step::Dropped | Step::Elect | Step::Look => {}
+        }
+    }
+}
+
 /// The unit that a ticket was given.
 #[derive(Drop)]
 pub enum Given {
@@ -200,7 +224,6 @@ pub enum Given {
 }
 
 /// What was answered.
-#[derive(Drop)]
 pub enum Answer {
     Accepted {
         op: u64,
@@ -250,12 +273,53 @@ pub enum Answer {
     },
 }
 
+impl Drop for Answer {
+    // Not derived: each crate above would prove a derived one again.
+    fn drop(self) {
+        match self {
+            Answer::Accepted { op: _ } => {}
+            Answer::AcceptedRestore {
+                op: _,
+                uuid: _,
+                indices: _indices,
+            } => {}
+            Answer::Gave {
+                ticket: _,
+                op: _,
+                unit: _unit,
+            } => {}
+            Answer::Drawn { first: _ } => {}
+            Answer::Listed { page: _page } => {}
+            Answer::Raised { generation: _ } => {}
+            Answer::Elected { term: _ } => {}
+            Answer::Looked {
+                snapshots: _snapshots,
+                safe: _,
+            } => {}
+            Answer::Refused { refusal: _ } => {}
+            Answer::NothingReady | Answer::Begun | Answer::Done | Answer::Exists => {}
+            Answer::Replaced | Answer::Fetched | Answer::Absent | Answer::Removed => {}
+            Answer::Settled | Answer::Ended => {}
+        }
+    }
+}
+
 /// A step with its answer. `who` is the ticket from 1 on that made it, or 0: a caller at a line of the script, or a take.
-#[derive(Drop)]
 pub struct Entry {
     pub who: u64,
     pub step: Step,
     pub answer: Answer,
+}
+
+impl Drop for Entry {
+    // Not derived: each crate above would prove a derived one again.
+    fn drop(self) {
+        let Entry {
+            who: _,
+            step: _step,
+            answer: _answer,
+        } = self;
+    }
 }
 
 impl Model for Entry {

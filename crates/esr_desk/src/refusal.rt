@@ -6,7 +6,7 @@ use esr_names::{BlobName, Id};
 use std::alloc::{AllocError, AllocFailed};
 
 /// A refusal that the history tells.
-#[derive(Clone, Copy, Debug, PartialEq, Eq)]
+#[derive(Clone, Copy, Debug)]
 pub enum EntryRefusal {
     /// This cleanup is open.
     CleanupRunning { op: u64 },
@@ -47,7 +47,7 @@ pub enum EntryRefusal {
 }
 
 /// Why a step isn't made.
-#[derive(Clone, Copy, Debug, PartialEq, Eq)]
+#[derive(Clone, Copy, Debug)]
 pub enum StepRefusal {
     /// There was no memory: nothing happened.
     Memory,

@@ -9,7 +9,7 @@ use std::io::{self, ErrorKind, Seek, SeekFrom, Write};
 use std::rt::Files;
 
 /// What is known of the bytes of a file that is being written.
-#[derive(Clone, Copy, Debug, PartialEq, Eq)]
+#[derive(Clone, Copy)]
 enum State {
     /// They are those that were written.
     Whole,

@@ -1,5 +1,5 @@
 -- The shards whose generation the new root hasn't are those of the definitions.
-use Rattle.std.proofs.Common.{◌≡◌, ℕ, zero, suc, ◌+◌, ◌<◌, ◌≤◌, ◌==◌, Bool, true, false, List, [], ◌∷◌, ◌++◌, map, flat_map, length, drop, get_or, drop-cons, add-one, Option, Some, None, option_map, refl, sym, ap, ◌∙◌}
+use Rattle.std.proofs.Common.{◌≡◌, ℕ, suc, ◌+◌, ◌<◌, ◌≤◌, ◌==◌, Bool, true, false, List, [], ◌∷◌, ◌++◌, map, flat_map, length, drop, get_or, drop-cons, add-one, Option, Some, None, option_map, refl, sym, ap, ◌∙◌}
 use Rattle.std.specs.Prelude.{if◌then◌else◌}
 use Rattle.std.proofs.lemmas.List.{drop_all}
 use Rattle.esr_names.specs.declared.ids.Id.{Id}
@@ -18,9 +18,8 @@ use Rattle.esr_dooming.specs.Pieces.{Added, one_shard, gone_place, gone_index, o
 -- ---- the generation of a shard
 
 generation_is : (gs : List (Option Id)) (k : ℕ) → at_shard (map (option_map number_of) gs) k ≡ option_map number_of (generation_in gs k)
-generation_is [] k = refl
-generation_is (g ∷ gs) zero = refl
 generation_is (g ∷ gs) (suc k) = generation_is gs k
+generation_is gs k = refl
 
 -- none of the indices before has the id
 abbrev pub IsAhead : List CodeIndex → ℕ → ℕ → Type 0

@@ -64,8 +64,7 @@ index_metas_same uuids (x ∷ xs) = λ j. metas_same uuids x.id x.snapshots j ++
 
 leaves_same : (a k b : Bool) → (a && not (k && b)) ≡ (a && (if k then (if b then false else true) else true))
 leaves_same a true true = refl
-leaves_same a true false = refl
-leaves_same a false b = refl
+leaves_same a k b = refl
 
 lists_same : (listed left : List ℕ) (p : PrunedShard) (ls : List SnapList) → flat_map (list_piece (names_uuid listed) (names_uuid left) p) ls ≡ doomed_lists listed left p ls
 lists_same listed left p [] = refl

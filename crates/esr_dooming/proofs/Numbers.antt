@@ -44,12 +44,9 @@ any_map p f (x ∷ xs) = ap (λ (b : Bool). p (f x) || b) (any_map p f xs)
 -- ---- a set that grows
 
 swapped : (a o b : Bool) → cond a true (o || b) ≡ (o || (b || (a || false)))
-swapped true true b = refl
 swapped true false true = refl
-swapped true false false = refl
-swapped false true b = refl
 swapped false false true = refl
-swapped false false false = refl
+swapped a o b = refl
 
 -- it has what it had, and these numbers
 abbrev pub IsAlso : BTreeSet ℕ → BTreeSet ℕ → List ℕ → Type 0

@@ -92,8 +92,6 @@ unlisted_same listed lists = λ j. list_any (λ (l : SnapList). not_if (names_uu
 read_same : (clean : Bool) (uuids listed : List ℕ) (leaves : Bool) (index number base : ℕ) (o : Option ShardFiles) (more : List PrunedShard)
     → pruned_by clean uuids listed leaves index number base o more ≡ read_piece (names_uuid uuids) (names_uuid listed) (loss_of clean leaves) index number base o ++ more
 read_same clean uuids listed true index number base None more = refl
-read_same clean uuids listed false index number base None more = refl
-read_same clean uuids listed true index number base (Some was) more = refl
 read_same false uuids listed false index number base (Some was) more =
     victim_one (list_any (is_victim false uuids listed) was.snapshots) (list_any (is_left (left_uuids uuids listed)) was.snapshots)
     (has_left (names_uuid uuids) (names_uuid listed) was.snapshots) (kept_same uuids listed was.snapshots) index number base more
@@ -101,6 +99,7 @@ read_same true uuids listed false index number base (Some was) more =
     let left : Bool = list_any (is_left (left_uuids uuids listed)) was.snapshots in
     ap (λ (b : Bool). if b then one_shard index number base left ∷ more else more) (unlisted_same listed was.snapshots)
     ∙ victim_one (has_unlisted (names_uuid listed) was.snapshots) left (has_left (names_uuid uuids) (names_uuid listed) was.snapshots) (kept_same uuids listed was.snapshots) index number base more
+read_same clean uuids listed leaves index number base o more = refl
 
 -- ---- of indices
 

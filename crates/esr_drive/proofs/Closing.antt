@@ -103,16 +103,13 @@ none_asked (m ∷ more) all = ap (λ (b : Bool). if b then as_asked m.entry.step
 -- ---- what a wait says
 
 elected_any : (elects : ℕ) (old new : List Moment) (answer : Answer) → elections new ≡ elections old + elects → HasElected elects old new answer
-elected_any elects old new (Ok x) is = is
 elected_any elects old new (Err steps.Memory) is = omega (arith, is)
 elected_any elects old new (Err steps.TurnsSpent) is = omega (arith, is)
-elected_any elects old new (Err (steps.Refused refusal)) is = is
+elected_any elects old new answer is = is
 
 elected_by : (elects made : ℕ) (old new : List Moment) (answer : Answer) → elections new ≡ elections old + made → AreElected answer made elects → HasElected elects old new answer
-elected_by elects made old new (Ok x) is h = omega (arith, is, h)
-elected_by elects made old new (Err steps.Memory) is h = omega (arith, is, h)
 elected_by elects made old new (Err steps.TurnsSpent) is h = omega (arith, is, h)
-elected_by elects made old new (Err (steps.Refused refusal)) is h = omega (arith, is, h)
+elected_by elects made old new answer is h = omega (arith, is, h)
 
 not_true : (b : Bool) → (b ≡ true → ⊥) → b ≡ false
 not_true true no_way = absurd (no_way refl)

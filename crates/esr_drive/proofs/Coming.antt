@@ -13,7 +13,7 @@ use Rattle.esr_core.specs.Restores.{reader_of as restore_reader, read_more}
 use Rattle.esr_core.specs.Entry.{Given, Step, TakeStep, Reply, Gave, Refused, DepotFault, Entry, Moment}
 use Rattle.esr_core.specs.After.{answered, after}
 use Rattle.esr_core.specs.Allowed.{Allowed}
-use Rattle.esr_core.specs.Changes.{StepChange, NoChange, NewOp, NewDeletion, MergedDeletion, NewRestore, NewTicket, NewReader, OwnTicket, Settlement, UnitEnd, DeletionFailure, OpDrop, Election, ReaderFetch, ReaderEnd, PlainDraw, TestBlob, SwapFault}
+use Rattle.esr_core.specs.Changes.{StepChange, NewTicket, NewReader, OwnTicket, Settlement, UnitEnd, DeletionFailure, OpDrop, ReaderFetch, ReaderEnd, SwapFault}
 use Rattle.esr_core.specs.History.{world_from, IsLegal}
 use Rattle.esr_core.specs.Laws.Histories.{world_parts}
 use Rattle.esr_desk.specs.Start.{Start, Legal, formats_of, world_of, or_no_ticket, ticket_of}
@@ -66,53 +66,30 @@ reader_goes w who k q v there back out =
 
 -- a ticket that is out was out before, or comes by the step
 ticket_came : (f : Formats) (w : World) (who : ℕ) (step : Step) (new : World) (k : ℕ) → StepChange f w who step new → ticket_out new k ≡ true → (ticket_out w k ≡ true) ⊎ Comes w step k
-ticket_came f w who step _ k NoChange out = inl out
-ticket_came f w who step _ k (NewOp asks op completed next_id is up) out = inl out
-ticket_came f w who step _ k (NewDeletion asks now x aborts clean) out = inl out
-ticket_came f w who step _ k (MergedDeletion asks now d x v aborts there clean failed) out = inl out
-ticket_came f w who step _ k (NewRestore asks r) out = inl out
 ticket_came f w who step _ k (NewTicket is t new now same) out =
     ⊎_elim
     (λ (here : (k ≡ w.next_ticket) × (fin.get (fin.insert w.tickets w.next_ticket t) k ≡ Some t)). inr (here.0, is))
     (λ (was : fin.get (fin.insert w.tickets w.next_ticket t) k ≡ fin.get w.tickets k). inl (ap (λ (o : Option Ticket). (or_no_ticket o).out) (sym was) ∙ out))
     (put_or_was w.tickets w.next_ticket t k)
-ticket_came f w who step _ k (NewReader is o r s there) out = inl out
 ticket_came f w who step _ k (OwnTicket t v there same settled next_id pending up more) out = inl (ticket_goes w who k t v there same.out out)
 ticket_came f w who step _ k (Settlement settles t s n names deletes there is raised left) out = inl (ticket_goes w who k t (record t { settled = true }) there (λ back. back) out)
 ticket_came f w who step _ k (UnitEnd t op v completed there op_there same) out = inl (ticket_goes w who k t (record t { out = false }) there none_back out)
 ticket_came f w who step _ k (DeletionFailure t x there x_there) out = inl (ticket_goes w who k t (record t { out = false }) there none_back out)
 ticket_came f w who step _ k (OpDrop is t there) out = inl (ticket_goes w who k t (record t { out = false }) there none_back out)
-ticket_came f w who step _ k (Election is) out = inl out
-ticket_came f w who step _ k (ReaderFetch q name bytes there) out = inl out
-ticket_came f w who step _ k (ReaderEnd q r state there r_there) out = inl out
-ticket_came f w who step _ k (PlainDraw next_id pending up more) out = inl out
-ticket_came f w who step _ k (TestBlob name is) out = inl out
 ticket_came f w who step _ k (SwapFault swaps up change) out = ticket_came f w who step up k change out
+ticket_came f w who step _ k other out = inl out
 
 -- ... and so one of a restore
 reader_came : (f : Formats) (w : World) (who : ℕ) (step : Step) (new : World) (k : ℕ) → StepChange f w who step new → reader_out new k ≡ true → (reader_out w k ≡ true) ⊎ Comes w step k
-reader_came f w who step _ k NoChange out = inl out
-reader_came f w who step _ k (NewOp asks op completed next_id is up) out = inl out
-reader_came f w who step _ k (NewDeletion asks now x aborts clean) out = inl out
-reader_came f w who step _ k (MergedDeletion asks now d x v aborts there clean failed) out = inl out
-reader_came f w who step _ k (NewRestore asks r) out = inl out
-reader_came f w who step _ k (NewTicket is t new now same) out = inl out
 reader_came f w who step _ k (NewReader is o r s there) out =
     ⊎_elim
     (λ (here : (k ≡ w.next_ticket) × (fin.get (fin.insert w.readers w.next_ticket (restore_reader o r s)) k ≡ Some (restore_reader o r s))). inr (here.0, is))
     (λ (was : fin.get (fin.insert w.readers w.next_ticket (restore_reader o r s)) k ≡ fin.get w.readers k). inl (ap (λ (x : Option Reader). (or_no_reader x).out) (sym was) ∙ out))
     (put_or_was w.readers w.next_ticket (restore_reader o r s) k)
-reader_came f w who step _ k (OwnTicket t v there same settled next_id pending up more) out = inl out
-reader_came f w who step _ k (Settlement settles t s n names deletes there is raised left) out = inl out
-reader_came f w who step _ k (UnitEnd t op v completed there op_there same) out = inl out
-reader_came f w who step _ k (DeletionFailure t x there x_there) out = inl out
-reader_came f w who step _ k (OpDrop is t there) out = inl out
-reader_came f w who step _ k (Election is) out = inl out
 reader_came f w who step _ k (ReaderFetch q name bytes there) out = inl (reader_goes w who k q (read_more q name bytes) there (λ back. back) out)
 reader_came f w who step _ k (ReaderEnd q r state there r_there) out = inl (reader_goes w who k q (record q { out = false }) there none_back out)
-reader_came f w who step _ k (PlainDraw next_id pending up more) out = inl out
-reader_came f w who step _ k (TestBlob name is) out = inl out
 reader_came f w who step _ k (SwapFault swaps up change) out = reader_came f w who step up k change out
+reader_came f w who step _ k other out = inl out
 
 -- ---- what a take is answered
 
@@ -120,7 +97,6 @@ reader_came f w who step _ k (SwapFault swaps up change) out = reader_came f w w
 take_gives : (f : Formats) (w : World) (who : ℕ) (reply : Reply) (image : Option Image) → ((j : ℕ) × (o : ℕ) × (unit : Given) × (reply ≡ Gave j o unit)) ⊎ (answered f w who TakeStep reply image ≡ w)
 take_gives f w who (Gave j o unit) image = inl (j, o, unit, refl)
 take_gives f w who (Refused DepotFault) image = inr refl
-take_gives f w who (Refused refusal) image = inr refl
 take_gives f w who reply image = inr refl
 
 -- the step gives the ticket

@@ -102,10 +102,9 @@ elects_then times old mid new r all w = by_answer r (works_elect_none mid new w 
     at_most is = let same : elections new ≡ elections old + times = is in omega (arith, same)
 
     by_answer : (x : Answer) → elections new ≡ elections old + times → HasElected times old new x
-    by_answer (Ok x) is = is
     by_answer (Err steps.Memory) is = at_most is
     by_answer (Err steps.TurnsSpent) is = at_most is
-    by_answer (Err (steps.Refused refusal)) is = is
+    by_answer x is = is
 
 pub tickets_then : (s : Start) (old mid new : List Moment) (r : Answer) → s.alone ≡ true → (NoneOut s old → NoneOut s mid) → OnOk r (s.alone ≡ true → NoneOut s mid → NoneOut s new)
     → OnOk r (NoneOut s old → NoReaderOut s old → NoneOut s new)

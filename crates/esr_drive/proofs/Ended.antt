@@ -72,16 +72,14 @@ module _ {S F H T : Type 0} (e : Evidence S F H T) (s : Start) (old new : List M
   -- ... of a finalization
   pub master_ended : (result : Result (Unit {0}) UnitRefusal) → OnOk result (Finalized s old new who) → IfErr result (λ x. finishes.IsUnitRefused e s old new who x) → HasEnded result (ticket_of s new who)
   master_ended (Ok x) done refused = ap (λ (t : Ticket). t.out) done.is
-  master_ended (Err (units.Failed why)) done refused = ap (λ (t : Ticket). t.out) refused.0.is
   master_ended (Err (units.Stopped refusal)) done refused = tt
-  master_ended (Err units.Stale) done refused = ap (λ (t : Ticket). t.out) refused.0.is
+  master_ended result done refused = ap (λ (t : Ticket). t.out) refused.0.is
 
   -- ... of a delete or cleanup
   pub delete_ended : (result : Result (Unit {0}) UnitRefusal) → OnOk result (Deleted s old new who) → IfErr result (λ x. deletes.IsUnitRefused e s old new who x) → HasEnded result (ticket_of s new who)
   delete_ended (Ok x) done refused = ap (λ (t : Ticket). t.out) done.settled.is
-  delete_ended (Err (units.Failed why)) done refused = delete_over s (ticket_of s old who) (ticket_of s new who) refused.0
   delete_ended (Err (units.Stopped refusal)) done refused = tt
-  delete_ended (Err units.Stale) done refused = delete_over s (ticket_of s old who) (ticket_of s new who) refused.0
+  delete_ended result done refused = delete_over s (ticket_of s old who) (ticket_of s new who) refused.0
 
   -- ... of a restore, which has failed
   pub restore_ended : (x : UnitRefusal) (why : Why) → x ≡ units.Failed why → restores.IsUnitRefused e s old new who x → (reader_of s new who).out ≡ false

@@ -1,5 +1,5 @@
 -- Which refusals stop the work.
-use Rattle.std.proofs.Common.{◌≡◌, ◌≢◌, ◌≤◌, inl, inr, IfErr, ℕ, Bool, true, false, true≢false, List, Option, Result, Ok, Err, refl, sym, ap, ◌∙◌, subst, arith}
+use Rattle.std.proofs.Common.{◌≡◌, ◌≢◌, ◌≤◌, inl, inr, IfErr, ℕ, Bool, true, false, true≢false, List, Option, Result, Err, refl, sym, ap, ◌∙◌, subst, arith}
 use Rattle.esr_model.specs.Values.{Bytes}
 use Rattle.esr_core.specs.World.{World, Ticket, Drop}
 use Rattle.esr_core.specs.Ready.{IsShard}
@@ -148,24 +148,18 @@ delete_halted clean s log who e h = halted s log who e h
 module _ {S F H T : Type 0} (e : Evidence S F H T) (s : Start) (old new : List Moment) (who : ℕ) where
   -- ... of a shard
   pub upload_stopped : (files : Option (List (Bytes × Bytes))) (result : Result (Unit {0}) UnitRefusal) → IfErr result (uploads.IsUnitRefused e files s old new who) → IfErr result (IsUnitStopped s new who)
-  upload_stopped files (Ok x) h = tt
-  upload_stopped files (Err (units.Failed why)) h = tt
   upload_stopped files (Err (units.Stopped refusal)) h = halted s new who refusal h.1
-  upload_stopped files (Err units.Stale) h = tt
+  upload_stopped files result h = tt
 
   -- ... of a finalization
   pub master_stopped : (result : Result (Unit {0}) UnitRefusal) → IfErr result (λ x. finishes.IsUnitRefused e s old new who x) → IfErr result (IsUnitStopped s new who)
-  master_stopped (Ok x) h = tt
-  master_stopped (Err (units.Failed why)) h = tt
   master_stopped (Err (units.Stopped refusal)) h = master_halted s new who refusal h.2
-  master_stopped (Err units.Stale) h = tt
+  master_stopped result h = tt
 
   -- ... of a delete or cleanup
   pub delete_stopped : (result : Result (Unit {0}) UnitRefusal) → IfErr result (λ x. deletes.IsUnitRefused e s old new who x) → IfErr result (IsUnitStopped s new who)
-  delete_stopped (Ok x) h = tt
-  delete_stopped (Err (units.Failed why)) h = tt
   delete_stopped (Err (units.Stopped refusal)) h = delete_halted (ticket_of s old who).clean s new who refusal h.1
-  delete_stopped (Err units.Stale) h = tt
+  delete_stopped result h = tt
 
   -- ... of a restore
   pub restore_halted : (x : UnitRefusal) (refusal : StepRefusal) → x ≡ units.Stopped refusal → restores.IsUnitRefused e s old new who x → IsHalted s new who refusal

@@ -30,16 +30,10 @@ least_made (Err steps.TurnsSpent) made wanted h = h
 least_made (Err (steps.Refused refusal)) made wanted h = omega (arith, h)
 
 elected_both : (one other : Answer) (a b k l : ℕ) → AreElected one a k → AreElected other b l → AreElected (graver one other) (a + b) (k + l)
-elected_both (Ok x) (Ok y) a b k l h g = omega (arith, h, g)
-elected_both (Ok x) (Err steps.Memory) a b k l h g = omega (arith, h, g)
-elected_both (Ok x) (Err steps.TurnsSpent) a b k l h g = omega (arith, h, g)
-elected_both (Ok x) (Err (steps.Refused refusal)) a b k l h g = omega (arith, h, g)
 elected_both (Err steps.Memory) other a b k l h g = let least : b ≤ l = least_made other b l g in omega (arith, h, least)
 elected_both (Err steps.TurnsSpent) other a b k l h g = let least : b ≤ l = least_made other b l g in omega (arith, h, least)
-elected_both (Err (steps.Refused refusal)) (Ok y) a b k l h g = omega (arith, h, g)
-elected_both (Err (steps.Refused refusal)) (Err steps.Memory) a b k l h g = omega (arith, h, g)
-elected_both (Err (steps.Refused refusal)) (Err steps.TurnsSpent) a b k l h g = omega (arith, h, g)
-elected_both (Err (steps.Refused refusal)) (Err (steps.Refused second)) a b k l h g = omega (arith, h, g)
+elected_both one (Err steps.TurnsSpent) a b k l h g = omega (arith, h, g)
+elected_both one other a b k l h g = omega (arith, h, g)
 
 ok_both : (P Q R : Type 0) (one other : Answer) → (P → Q → R) → OnOk one P → OnOk other Q → OnOk (graver one other) R
 ok_both P Q R (Ok x) (Ok y) both h g = both h g

@@ -35,8 +35,7 @@ outside_shared s sources targets part_size o = record {
 
 unshared : (s : Start) (log : List Moment) (e : StepRefusal) → StoppedIn (shared s) log e → StoppedIn s log e
 unshared s log steps.Memory h = h
-unshared s log steps.TurnsSpent h = h
-unshared s log (steps.Refused refusal) h = h
+unshared s log e h = h
 
 pub ok_by : (P Q : Type 0) (answer : Answer) → (P → Q) → OnOk answer P → OnOk answer Q
 ok_by P Q (Ok x) to h = to h
@@ -67,10 +66,9 @@ takes_elect (c ∷ calls) takes =
     omega (arith, one, rest)
 
 none_elected : (answer : Answer) (made : ℕ) → made ≡ 0 → AreElected answer made 0
-none_elected (Ok x) made none = none
 none_elected (Err steps.Memory) made none = omega (arith, none)
 none_elected (Err steps.TurnsSpent) made none = omega (arith, none)
-none_elected (Err (steps.Refused refusal)) made none = none
+none_elected answer made none = none
 
 pub worked_by : (s : Start) (log : List Moment) (old new : List Call) (answer : Answer) → old ≡ [] → WorkedCalls old new answer → OnOk answer (AllEnded (shared s) log old new) → IfErr answer (IsStopped (shared s) log)
     → AreWorked s log new 1 0 answer
@@ -134,10 +132,9 @@ elected_on old mid new answer a b times same le first second = record {
     apart (x ∷ a) b c = ap (λ (l : List Call). x ∷ l) (apart a b c)
 
 made_elected : (answer : Answer) (made times : ℕ) → AreMade answer made times → AreElected answer made times
-made_elected (Ok x) made times h = h
-made_elected (Err steps.Memory) made times h = h
 made_elected (Err steps.TurnsSpent) made times h = h
 made_elected (Err (steps.Refused refusal)) made times h = absurd h
+made_elected answer made times h = h
 
 pub elected_by : (s : Start) (log : List Moment) (old new : List Call) (times : ℕ) (answer : Answer) → old ≡ [] → HasElectedBy times old new answer → IfErr answer (StoppedIn (shared s) log) → AreWorked s log new 0 times answer
 elected_by s log old new times answer none h stopped =

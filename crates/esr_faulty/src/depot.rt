@@ -1,5 +1,5 @@
 //! A container of which a call fails, or each from one on.
-ghost use Rattle.std.specs.Prelude.{◌≡◌, ◌≤◌};
+ghost use Rattle.std.specs.Prelude.{◌≡◌, ◌≤◌, length};
 ghost use Rattle.esr_depot.specs.Calls.{up};
 ghost use Rattle.esr_depot.specs.Untold.{untold};
 
@@ -99,6 +99,53 @@ impl<D> Faulty<D> {
     }
 }
 
+/// What is heard of a call that was made: its answer, unless that gets lost.
+fn heard<T: Drop>(turn: Turn, answer: Result<T, CallError>) -> Result<T, CallError> {
+    if turn == Turn::Lost && answer.is_ok() {
+        return Err(CallError::Failed);
+    }
+    answer
+}
+
+/// A commit, as the turn goes.
+fn commit_in<D: Depot>(
+    alloc: Global,
+    depot: &mut D,
+    turn: Turn,
+    stage: D::Stage,
+) -> Result<Commit, CallError> {
+    if !turn.is_made() {
+        return Err(CallError::Failed);
+    }
+    heard(turn, depot.commit(alloc, stage))
+}
+
+/// A replace, as the turn goes.
+fn replace_in<D: Depot>(
+    alloc: Global,
+    depot: &mut D,
+    turn: Turn,
+    stage: D::Stage,
+) -> Result<(), CallError> {
+    if !turn.is_made() {
+        return Err(CallError::Failed);
+    }
+    heard(turn, depot.replace(alloc, stage))
+}
+
+/// A swap of the record, as the turn goes.
+fn swap_in<D: Depot>(
+    alloc: Global,
+    depot: &mut D,
+    turn: Turn,
+    text: &[u8],
+) -> Result<(), CallError> {
+    if !turn.is_made() {
+        return Err(CallError::Failed);
+    }
+    heard(turn, depot.swap_record(alloc, text))
+}
+
 /// Takes the blob of that name away.
 fn remove_one<D: Depot>(alloc: Global, depot: &mut D, name: &str) -> Result<(), CallError> {
     let mut names = Names::new(alloc);
@@ -112,6 +159,28 @@ fn remove_first<D: Depot>(alloc: Global, depot: &mut D, names: &Names, count: u6
     for name in names.as_slice().iter().take(count as usize) {
         let _ = remove_one(alloc, depot, name.as_str());
     }
+}
+
+/// A removal, as the turn goes: of all names, or of the first so many.
+fn remove_in<D: Depot>(
+    alloc: Global,
+    depot: &mut D,
+    turn: Turn,
+    names: &Names,
+) -> Result<(), Failed>
+    requires { length names.now ≤ 1000 }
+{
+    if let Turn::First(count) = turn {
+        remove_first(alloc, depot, names, count);
+    }
+    if !turn.is_made() {
+        return Err(Failed);
+    }
+    depot.remove(names)?;
+    if turn == Turn::Lost {
+        return Err(Failed);
+    }
+    Ok(())
 }
 
 impl<D: Counted> Counted for Faulty<D> {
@@ -164,16 +233,8 @@ impl<D: Depot> Depot for Faulty<D> {
 
     fn commit(&mut self, alloc: Global, stage: FaultyStage<D::Stage>) -> Result<Commit, CallError> {
         let turn = self.next_turn(Kind::Commit);
-        if turn != Turn::Made && turn != Turn::Lost {
-            self.fail();
-            return Err(CallError::Failed);
-        }
-        match self.depot.commit(alloc, stage.stage) {
+        match commit_in(alloc, &mut self.depot, turn, stage.stage) {
             Ok(answer) => {
-                if turn == Turn::Lost {
-                    self.fail();
-                    return Err(CallError::Failed);
-                }
                 self.pass();
                 Ok(answer)
             }
@@ -187,16 +248,8 @@ impl<D: Depot> Depot for Faulty<D> {
 
     fn replace(&mut self, alloc: Global, stage: FaultyStage<D::Stage>) -> Result<(), CallError> {
         let turn = self.next_turn(Kind::Replace);
-        if turn != Turn::Made && turn != Turn::Lost {
-            self.fail();
-            return Err(CallError::Failed);
-        }
-        match self.depot.replace(alloc, stage.stage) {
+        match replace_in(alloc, &mut self.depot, turn, stage.stage) {
             Ok(()) => {
-                if turn == Turn::Lost {
-                    self.fail();
-                    return Err(CallError::Failed);
-                }
                 self.pass();
                 Ok(())
             }
@@ -259,19 +312,8 @@ impl<D: Depot> Depot for Faulty<D> {
 
     fn remove(&mut self, names: &Names) -> Result<(), Failed> {
         let turn = self.next_turn(Kind::Remove);
-        if let Turn::First(count) = turn {
-            remove_first(self.alloc, &mut self.depot, names, count);
-        }
-        if turn != Turn::Made && turn != Turn::Lost {
-            self.fail();
-            return Err(Failed);
-        }
-        match self.depot.remove(names) {
+        match remove_in(self.alloc, &mut self.depot, turn, names) {
             Ok(()) => {
-                if turn == Turn::Lost {
-                    self.fail();
-                    return Err(Failed);
-                }
                 self.pass();
                 Ok(())
             }
@@ -303,16 +345,8 @@ impl<D: Depot> Depot for Faulty<D> {
     fn swap_record(&mut self, alloc: Global, text: &[u8]) -> Result<(), CallError> {
         self.note(text);
         let turn = self.next_turn(Kind::SwapRecord);
-        if turn != Turn::Made && turn != Turn::Lost {
-            self.fail();
-            return Err(CallError::Failed);
-        }
-        match self.depot.swap_record(alloc, text) {
+        match swap_in(alloc, &mut self.depot, turn, text) {
             Ok(()) => {
-                if turn == Turn::Lost {
-                    self.fail();
-                    return Err(CallError::Failed);
-                }
                 self.pass();
                 Ok(())
             }

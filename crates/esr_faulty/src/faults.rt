@@ -63,3 +63,10 @@ impl Kind {
         }
     }
 }
+
+impl Turn {
+    /// Whether the call is made, as it is.
+    pub(crate) fn is_made(self) -> bool {
+        self == Turn::Made || self == Turn::Lost
+    }
+}

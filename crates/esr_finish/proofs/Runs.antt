@@ -28,53 +28,18 @@ tried_worked t = record { noted = t.noted; wrote = t.wrote; raised = t.raised; t
 
 pub tried_by_worked : {X : Type 0} (t : Ticket) (result : Result X StepRefusal) → Worked t (tried_by result t)
 tried_by_worked t (Ok x) = tried_worked t
-tried_by_worked t (Err steps.Memory) = worked_not t
-tried_by_worked t (Err steps.TurnsSpent) = worked_not t
 tried_by_worked t (Err (steps.Refused refusals.DepotFault)) = tried_worked t
-tried_by_worked t (Err (steps.Refused (refusals.CleanupRunning op))) = worked_not t
-tried_by_worked t (Err (steps.Refused (refusals.NameInUse uuid))) = worked_not t
-tried_by_worked t (Err (steps.Refused (refusals.TooMany limit))) = worked_not t
 tried_by_worked t (Err (steps.Refused (refusals.Deposed entry))) = worked_not t
-tried_by_worked t (Err (steps.Refused (refusals.Aborted by))) = worked_not t
-tried_by_worked t (Err (steps.Refused (refusals.StaleTerm own now))) = worked_not t
-tried_by_worked t (Err (steps.Refused (refusals.GenerationsSpent number))) = worked_not t
-tried_by_worked t (Err (steps.Refused (refusals.TermsSpent number))) = worked_not t
-tried_by_worked t (Err (steps.Refused (refusals.IdsSpent next))) = worked_not t
-tried_by_worked t (Err (steps.Refused (refusals.NameTaken name))) = worked_not t
-tried_by_worked t (Err (steps.Refused (refusals.NoSnapshot at))) = worked_not t
-tried_by_worked t (Err (steps.Refused (refusals.BeingDeleted op))) = worked_not t
-tried_by_worked t (Err (steps.Refused (refusals.NoIndex place))) = worked_not t
-tried_by_worked t (Err (steps.Refused (refusals.CloneRunning op))) = worked_not t
-tried_by_worked t (Err (steps.Refused (refusals.RestoreRunning op))) = worked_not t
-tried_by_worked t (Err (steps.Refused (refusals.BusyOp op))) = worked_not t
-tried_by_worked t (Err (steps.Refused (refusals.BusyTicket ticket))) = worked_not t
+tried_by_worked t result = worked_not t
 
 tried_if : (latest : Bool) (t : Ticket) → Worked t (if latest then tried t else t)
 tried_if true t = tried_worked t
 tried_if false t = worked_not t
 
 begun_by_worked : {X : Type 0} (name : BlobName) (t : Ticket) (result : Result X StepRefusal) → Worked t (begun_by name result t)
-begun_by_worked name t (Ok x) = worked_not t
-begun_by_worked name t (Err steps.Memory) = worked_not t
-begun_by_worked name t (Err steps.TurnsSpent) = worked_not t
 begun_by_worked name t (Err (steps.Refused refusals.DepotFault)) = tried_if (is_latest name) t
-begun_by_worked name t (Err (steps.Refused (refusals.CleanupRunning op))) = worked_not t
-begun_by_worked name t (Err (steps.Refused (refusals.NameInUse uuid))) = worked_not t
-begun_by_worked name t (Err (steps.Refused (refusals.TooMany limit))) = worked_not t
 begun_by_worked name t (Err (steps.Refused (refusals.Deposed entry))) = worked_not t
-begun_by_worked name t (Err (steps.Refused (refusals.Aborted by))) = worked_not t
-begun_by_worked name t (Err (steps.Refused (refusals.StaleTerm own now))) = worked_not t
-begun_by_worked name t (Err (steps.Refused (refusals.GenerationsSpent number))) = worked_not t
-begun_by_worked name t (Err (steps.Refused (refusals.TermsSpent number))) = worked_not t
-begun_by_worked name t (Err (steps.Refused (refusals.IdsSpent next))) = worked_not t
-begun_by_worked name t (Err (steps.Refused (refusals.NameTaken taken))) = worked_not t
-begun_by_worked name t (Err (steps.Refused (refusals.NoSnapshot at))) = worked_not t
-begun_by_worked name t (Err (steps.Refused (refusals.BeingDeleted op))) = worked_not t
-begun_by_worked name t (Err (steps.Refused (refusals.NoIndex place))) = worked_not t
-begun_by_worked name t (Err (steps.Refused (refusals.CloneRunning op))) = worked_not t
-begun_by_worked name t (Err (steps.Refused (refusals.RestoreRunning op))) = worked_not t
-begun_by_worked name t (Err (steps.Refused (refusals.BusyOp op))) = worked_not t
-begun_by_worked name t (Err (steps.Refused (refusals.BusyTicket ticket))) = worked_not t
+begun_by_worked name t result = worked_not t
 
 -- a begin, whatever it was answered
 pub begin_went : {X : Type 0} (s : Start) (old new : List Moment) (who : ℕ) (name : BlobName) (result : Result X StepRefusal) → Outcome s old new who (BeginStep name) (λ x. WasBegun) result
@@ -100,26 +65,9 @@ commit_went s old new who name contents done step own = record {
 -- what a record swap that was refused left of the ticket
 pub left_cases : {X : Type 0} (gone : Ticket → Type 0) (result : Result X StepRefusal) (t u : Ticket) → LeftBy gone result t u → IfErr result (λ e. (u ≡ t) ⊎ gone u)
 left_cases gone (Ok x) t u h = tt
-left_cases gone (Err steps.Memory) t u h = inl h
-left_cases gone (Err steps.TurnsSpent) t u h = inl h
 left_cases gone (Err (steps.Refused refusals.DepotFault)) t u h = h
-left_cases gone (Err (steps.Refused (refusals.CleanupRunning op))) t u h = inl h
-left_cases gone (Err (steps.Refused (refusals.NameInUse uuid))) t u h = inl h
-left_cases gone (Err (steps.Refused (refusals.TooMany limit))) t u h = inl h
 left_cases gone (Err (steps.Refused (refusals.Deposed entry))) t u h = inl h
-left_cases gone (Err (steps.Refused (refusals.Aborted by))) t u h = inl h
-left_cases gone (Err (steps.Refused (refusals.StaleTerm own now))) t u h = inl h
-left_cases gone (Err (steps.Refused (refusals.GenerationsSpent number))) t u h = inl h
-left_cases gone (Err (steps.Refused (refusals.TermsSpent number))) t u h = inl h
-left_cases gone (Err (steps.Refused (refusals.IdsSpent next))) t u h = inl h
-left_cases gone (Err (steps.Refused (refusals.NameTaken name))) t u h = inl h
-left_cases gone (Err (steps.Refused (refusals.NoSnapshot at))) t u h = inl h
-left_cases gone (Err (steps.Refused (refusals.BeingDeleted op))) t u h = inl h
-left_cases gone (Err (steps.Refused (refusals.NoIndex place))) t u h = inl h
-left_cases gone (Err (steps.Refused (refusals.CloneRunning op))) t u h = inl h
-left_cases gone (Err (steps.Refused (refusals.RestoreRunning op))) t u h = inl h
-left_cases gone (Err (steps.Refused (refusals.BusyOp op))) t u h = inl h
-left_cases gone (Err (steps.Refused (refusals.BusyTicket ticket))) t u h = inl h
+left_cases gone result t u h = inl h
 
 raised_worked : (t u : Ticket) → (u ≡ t) ⊎ HasRaised t u → Worked t u
 raised_worked t u (inl same) = worked_to t t u (worked_not t) same

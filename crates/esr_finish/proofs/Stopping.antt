@@ -1,7 +1,7 @@
 -- Which refusals end a finalization, and which stop it.
 use Rattle.std.proofs.Common.{◌≡◌, ◌≢◌, inl, inr, ℕ, true, false, List, refl, sym, ap, ◌∙◌, true≢false}
 use Rattle.esr_model.specs.Names.{BlobName, Latest}
-use Rattle.esr_core.specs.World.{World, Work, Shard, Finalize, Deleting, Drop}
+use Rattle.esr_core.specs.World.{World, Work, Shard, Finalize}
 use Rattle.esr_core.specs.Entry.{Step, FinishStep, Refusal, DeposedAt, AbortedBy, DepotFault, NameTaken, GenerationsSpent, StaleTerm, Refused, Moment}
 use Rattle.esr_core.specs.After.{is_latest}
 use Rattle.esr_core.specs.Allowed.{ByFailedSwap, ByDelete}
@@ -54,8 +54,7 @@ writing_refused F s faults old new who step (steps.Refused x) writes matters h =
 pub matters_any : (work : Work) (step : Step) → is_of_latest step ≡ false → Matters work step
 matters_any (Shard index number) step other = tt
 matters_any (Finalize info shards made) step other = other
-matters_any (Deleting uuids plan) step other = other
-matters_any Drop step other = other
+matters_any work step other = other
 
 -- a blob wasn't put, which shows how a finalization ends
 pub put_shown : {S F H T : Type 0} (e : Evidence S F H T) (s : Start) (log : List Moment) (who : ℕ) (trouble : Trouble S F) → RefusesSo → IsMasterOut s log who → IsPutRefused s e.stage_faults log who trouble

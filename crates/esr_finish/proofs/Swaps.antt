@@ -3,7 +3,7 @@ use Rattle.std.proofs.Common.{◌≡◌, inl, inr, ℕ, true, List, [], ◌∷�
 use Rattle.esr_model.specs.Names.{BlobName, Root, Snap, Meta, IndexMeta}
 use Rattle.esr_model.specs.Values.{Bytes, Has, IndexRef, RootData, SnapInfo, Formats}
 use Rattle.esr_model.specs.Finalize.{finalized_root}
-use Rattle.esr_core.specs.World.{Ticket, Work as TicketWork, Shard, Swap, Finalize, Deleting, Drop, swap, metadata}
+use Rattle.esr_core.specs.World.{Ticket, Work as TicketWork, Shard, Swap, Finalize, Deleting, swap, metadata}
 use Rattle.esr_core.specs.Ready.{IsShard, IsMaster}
 use Rattle.esr_root.specs.Root as code
 use Rattle.esr_meta.specs.Info.{Info}
@@ -135,8 +135,7 @@ final_master a b work new op copy info shards work_is took worked =
 pub no_master_shard : (work : TicketWork) → IsMaster work → IsShard work → ⊥
 no_master_shard (Shard index number) master shard = master
 no_master_shard (Finalize info results made) master shard = shard
-no_master_shard (Deleting uuids plan) master shard = shard
-no_master_shard Drop master shard = shard
+no_master_shard work master shard = shard
 
 -- it ends when it has settled
 pub settled_ends : (s : Start) (log : List Moment) (who : ℕ) (t : Ticket) → IsUnsettledMaster t → ticket_of s log who ≡ record t { settled = true } → CanFinish s log who

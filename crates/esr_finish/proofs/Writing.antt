@@ -1,12 +1,16 @@
 -- A ticket whose swap's blobs are put one after another.
-use Rattle.std.proofs.Common.{◌≡◌, ◌≢◌, inl, inr, ⊎_elim, ℕ, List, [], ◌∷◌, ◌++◌, refl, sym, ap, ◌∙◌, subst, true≢false}
+use Rattle.std.proofs.Common.{◌≡◌, ◌≢◌, inl, inr, ⊎_elim, ℕ, Bool, true, false, List, [], ◌∷◌, ◌++◌, Some, None, refl, sym, ap, ◌∙◌, subst, true≢false}
+use Rattle.std.specs.Prelude.{if◌then◌else◌}
 use Rattle.esr_model.specs.Lists.{Has-left, Has-right}
 use Rattle.esr_model.specs.Names.{BlobName, Root, Latest}
 use Rattle.esr_model.specs.Values.{Bytes, Has, RootData}
 use Rattle.esr_core.specs.World.{Ticket, Swap}
 use Rattle.esr_core.specs.Allowed.{IsMetadata}
-use Rattle.esr_desk.specs.Start.{Start, formats_of}
+use Rattle.esr_depot.specs.declared.depot.Commit.{Commit}
+use Rattle.esr_depot.specs.declared.depot.Commit.TheVariants as commits
+use Rattle.esr_desk.specs.Start.{Start, formats_of, told_bytes}
 use Rattle.esr_desk.specs.Conditions.{CanCommit}
+use Rattle.esr_desk.specs.Taken.{committed_by}
 use Rattle.esr_finish.specs.Blobs.{root_blob}
 use Rattle.esr_finish.specs.Ticket.{HasSwap, MayStore, MayPut, MayPutRoot, noted_with, Wrote, raised_to}
 use Rattle.esr_finish.specs.Went.{Worked}
@@ -28,6 +32,16 @@ may_commit s t b may stored metadata = record {
   numbered = λ index number shard. absurd (swaps_no_shard (formats_of s) t.work t.root may.0 may.1.is index number shard);
   late = λ uuids plan deletes clean. absurd (true≢false (sym clean ∙ may.3));
 }
+
+told_wrote : (tells : Bool) (name : BlobName) (bytes : Bytes) (done : Commit) (t : Ticket) → Wrote t (committed_by name (if tells then Some bytes else None) done t) ((name, bytes) ∷ [])
+told_wrote true name bytes commits.Done t = record { wrote = (name, bytes) ∷ t.wrote; from = λ b has. ⊎_elim (λ same. inr (inl same)) (λ before. inl before) has; is = refl }
+told_wrote true name bytes commits.Exists t = record { wrote = t.wrote; from = λ b has. inl has; is = refl }
+told_wrote false name bytes commits.Done t = record { wrote = t.wrote; from = λ b has. inl has; is = refl }
+told_wrote false name bytes commits.Exists t = record { wrote = t.wrote; from = λ b has. inl has; is = refl }
+
+-- what the ticket is once it was committed
+pub wrote_one : (s : Start) (name : BlobName) (bytes : Bytes) (done : Commit) (a b : Ticket) → b ≡ committed_by name (told_bytes s bytes) done a → Wrote a b ((name, bytes) ∷ [])
+wrote_one s name bytes done a b is = subst (λ (t : Ticket). Wrote a t ((name, bytes) ∷ [])) (sym is) (told_wrote s.tells name bytes done a)
 
 -- so may the bytes that the code makes of it, under the code's name
 pub may_store : (s : Start) (t : Ticket) (b : BlobName × Bytes) (name : BlobName) (bytes : Bytes) → ◌≡◌ {A = BlobName × Bytes} (name, bytes) b → MayPut s t (b ∷ []) → b.0 ≢ Latest → IsMetadata b.0 → MayStore s t name bytes

@@ -1,5 +1,5 @@
 -- The text of a name of the layout is UTF-8, and reads as the name.
-use Rattle.std.proofs.Common.{◌≡◌, ℕ, ◌<◌, ◌^◌, Bool, true, false, ◌&&◌, List, ◌++◌, codes, Option, Some, None, option_map, IfSome, IsUtf8, bytes_eq, refl, sym, ap, subst, ◌∙◌, arith}
+use Rattle.std.proofs.Common.{◌≡◌, ℕ, ◌<◌, ◌^◌, Bool, true, ◌&&◌, List, ◌++◌, codes, Option, Some, None, option_map, IfSome, IsUtf8, bytes_eq, refl, sym, ap, subst, ◌∙◌, arith}
 use Rattle.std.specs.Prelude.{decimal, option_and_then}
 use Rattle.std.proofs.lemmas.Bool.{and_parts, ltb-true}
 use Rattle.std.proofs.lemmas.Slice.Eq.{bytes_eq-Decides}
@@ -62,22 +62,19 @@ name_text_utf8 (code.TestNode v w) fits =
 
 two_ids : (x y z : Bool) → ((x && y) && z) ≡ true → (x ≡ true) × (y ≡ true) × (z ≡ true)
 two_ids true true z h = (refl, refl, h)
-two_ids true false z h = absurd cc
-two_ids false y z h = absurd cc
+two_ids x y z h = absurd cc
 
 pub is_of_layout-says : (name : CodeName) → is_of_layout name ≡ true → HasIds name × IsName name
 unfolding is_of_layout HasIds IsName
 is_of_layout-says (code.Root n) h = (tt, ltb-true _ _ h)
 is_of_layout-says code.Latest h = (tt, tt)
-is_of_layout-says (code.Snap u) h = (ltb-true _ _ h, tt)
-is_of_layout-says (code.Meta u) h = (ltb-true _ _ h, tt)
 is_of_layout-says (code.IndexMeta i u) h = let p = and_parts _ _ h in ((ltb-true _ _ p.0, ltb-true _ _ p.1), tt)
 is_of_layout-says (code.ShardSnap s u) h = let p = two_ids _ _ _ h in ((ltb-true _ _ p.0, ltb-true _ _ p.1), ltb-true _ _ p.2)
 is_of_layout-says (code.ShardIndex s g) h = let p = two_ids _ _ _ h in ((ltb-true _ _ p.0, ltb-true _ _ p.1), ltb-true _ _ p.2)
 is_of_layout-says (code.Whole s x) h = let p = two_ids _ _ _ h in ((ltb-true _ _ p.0, ltb-true _ _ p.1), ltb-true _ _ p.2)
 is_of_layout-says (code.Part s x k) h = let p = two_ids _ _ _ h in let q = and_parts _ _ p.2 in ((ltb-true _ _ p.0, ltb-true _ _ p.1), (ltb-true _ _ q.0, ltb-true _ _ q.1))
-is_of_layout-says (code.TestMaster v) h = (ltb-true _ _ h, tt)
 is_of_layout-says (code.TestNode v w) h = let p = and_parts _ _ h in (ltb-true _ _ p.0, ltb-true _ _ p.1)
+is_of_layout-says name h = (ltb-true _ _ h, tt)
 
 -- ---- reading
 

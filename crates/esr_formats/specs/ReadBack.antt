@@ -34,17 +34,8 @@ pub ids_back : (us : List Id) → map id_of (map number_of us) ≡ us
 ids_back us = map_back number_of id_of (λ u. refl) us
 
 pub name_back : (name : CodeName) → code_name (name_of name) ≡ name
-name_back (code.Root n) = refl
-name_back code.Latest = refl
-name_back (code.Snap u) = refl
-name_back (code.Meta u) = refl
-name_back (code.IndexMeta i u) = refl
 name_back (code.ShardSnap s u) = refl
-name_back (code.ShardIndex s g) = refl
-name_back (code.Whole s x) = refl
-name_back (code.Part s x k) = refl
-name_back (code.TestMaster v) = refl
-name_back (code.TestNode v w) = refl
+name_back name = refl
 
 pub entries_back : (es : List CodeEntry) → map code_entry (map entry_of es) ≡ es
 entries_back es = map_back entry_of code_entry (λ e. refl) es
@@ -61,15 +52,13 @@ is_of_layout-from : (name : CodeName) → HasIds name → IsName name → is_of_
 unfolding is_of_layout HasIds IsName
 is_of_layout-from (code.Root n) ids fits = lt-ltb _ _ fits
 is_of_layout-from code.Latest ids fits = refl
-is_of_layout-from (code.Snap u) ids fits = lt-ltb _ _ ids
-is_of_layout-from (code.Meta u) ids fits = lt-ltb _ _ ids
 is_of_layout-from (code.IndexMeta i u) ids fits = and_from _ _ (lt-ltb _ _ ids.0) (lt-ltb _ _ ids.1)
 is_of_layout-from (code.ShardSnap s u) ids fits = and_from _ _ (and_from _ _ (lt-ltb _ _ ids.0) (lt-ltb _ _ ids.1)) (lt-ltb _ _ fits)
 is_of_layout-from (code.ShardIndex s g) ids fits = and_from _ _ (and_from _ _ (lt-ltb _ _ ids.0) (lt-ltb _ _ ids.1)) (lt-ltb _ _ fits)
 is_of_layout-from (code.Whole s x) ids fits = and_from _ _ (and_from _ _ (lt-ltb _ _ ids.0) (lt-ltb _ _ ids.1)) (lt-ltb _ _ fits)
 is_of_layout-from (code.Part s x k) ids fits = and_from _ _ (and_from _ _ (lt-ltb _ _ ids.0) (lt-ltb _ _ ids.1)) (and_from _ _ (lt-ltb _ _ fits.0) (lt-ltb _ _ fits.1))
-is_of_layout-from (code.TestMaster v) ids fits = lt-ltb _ _ ids
 is_of_layout-from (code.TestNode v w) ids fits = and_from _ _ (lt-ltb _ _ ids) (lt-ltb _ _ fits)
+is_of_layout-from name ids fits = lt-ltb _ _ ids
 
 -- the text of a name of the layout reads as the name
 pub read_name-name_text : (name : CodeName) → HasIds name → IsName name → read_name (name_text name) ≡ Some name

@@ -81,16 +81,12 @@ pub unreadable_reads_not : (known : Bytes → Bytes → ℕ → Bool) (told : By
     → IsUnreadable (formats known told) name bytes
 unfolding unreadable formats root_kind info_kind global_kind index_meta_kind shard_snap_kind shard_index_kind
 unreadable_reads_not known told (Root n) bytes reason is = refused_none root_of (root_from bytes) reason is
-unreadable_reads_not known told Latest bytes reason is = no_reason reason is
 unreadable_reads_not known told (Snap u) bytes reason is = refused_none info_of_code (info_from bytes) reason is
 unreadable_reads_not known told (Meta u) bytes reason is = refused_none global_of_code (global_from bytes) reason is
 unreadable_reads_not known told (IndexMeta i u) bytes reason is = refused_none index_meta_of (index_meta_from bytes) reason is
 unreadable_reads_not known told (ShardSnap i k u) bytes reason is = refused_none shard_snap_of (shard_snap_from bytes) reason is
 unreadable_reads_not known told (ShardIndex i k g) bytes reason is = refused_none shard_index_of (shard_index_from bytes) reason is
-unreadable_reads_not known told (File i k x) bytes reason is = no_reason reason is
-unreadable_reads_not known told (Part i k x p) bytes reason is = no_reason reason is
-unreadable_reads_not known told (TestMaster v) bytes reason is = no_reason reason is
-unreadable_reads_not known told (TestNode v n) bytes reason is = no_reason reason is
+unreadable_reads_not known told name bytes reason is = no_reason reason is
 
 -- ---- what a reader refuses
 

@@ -42,11 +42,9 @@ read_alike s q name h = record { out = h.out; may = h.may }
 module _ {s : Start} {before : List Moment} {pass turn : Seen} {value : List Moment} (t : Turned s before pass turn value) (who : ℕ) where
   -- the desk under the lock took it, too
   pub mine_whole : (hand : Hand) → IsMine hand (calls_in (length before) pass.seen pass.mine) who → IsMine hand (calls_at 0 value) who
-  mine_whole hands.Unit mine = t.taken who mine
-  mine_whole hands.Delete mine = t.taken who mine
-  mine_whole hands.Restore mine = t.taken who mine
   mine_whole hands.Check mine = mine
   mine_whole hands.Verify mine = mine
+  mine_whole hand mine = t.taken who mine
 
   waits : (hand : Hand) → IsMine hand (calls_in (length before) pass.seen pass.mine) who → Waited (shared s) (before ++ pass.seen) value who
   waits hand mine = t.waited who (own_hand s before pass turn value t hand who mine)
@@ -69,16 +67,13 @@ module _ {s : Start} {before : List Moment} {pass turn : Seen} {value : List Mom
   fetch_on hands.Unit name mine h = subst (λ (own : Own). CanFetch own.ticket name) (same_own mine) h
   fetch_on hands.Delete name mine h = subst (λ (own : Own). CanFetchShard own.ticket name) (same_own mine) h
   fetch_on hands.Restore name mine h = subst (λ (own : Own). CanRead s own.reader name) (same_own mine) (read_alike s (reader_of s (before ++ pass.seen) who) name h)
-  fetch_on hands.Check name mine h = absurd (false≢true h.0.alone)
-  fetch_on hands.Verify name mine h = absurd (false≢true h.0.alone)
+  fetch_on hand name mine h = absurd (false≢true h.0.alone)
 
   pub fetch_fresh : (hand : Hand) (name : BlobName) (step : Step) → IsMine hand (calls_in (length before) pass.seen pass.mine) who → MayFetch hand (shared s) (before ++ pass.seen) who name → IsFresh (shared s) (before ++ pass.seen) who step
       → IsFresh s value who step
-  fetch_fresh hands.Unit name step mine may h = fresh_ticket mine step h
-  fetch_fresh hands.Delete name step mine may h = fresh_ticket mine step h
-  fetch_fresh hands.Restore name step mine may h = fresh_ticket mine step h
   fetch_fresh hands.Check name step mine may h = absurd (false≢true may.0.alone)
   fetch_fresh hands.Verify name step mine may h = absurd (false≢true may.0.alone)
+  fetch_fresh hand name step mine may h = fresh_ticket mine step h
 
   -- what a fetch makes of who fetches
   pub fetch_own : (hand : Hand) (name : BlobName) (new : List Moment) (home : Seen) (P : Own → Own → Type 0) → IsMine hand (calls_in (length before) pass.seen pass.mine) who → MayFetch hand (shared s) (before ++ pass.seen) who name
@@ -96,8 +91,7 @@ module _ {s : Start} {before : List Moment} {pass turn : Seen} {value : List Mom
   fail_on hands.Unit mine h = subst (λ (own : Own). CanFail own.ticket) (same_own mine) h
   fail_on hands.Delete mine h = subst (λ (own : Own). CanFailDelete own.ticket) (same_own mine) h
   fail_on hands.Restore mine h = subst (λ (own : Own). own.reader.out ≡ true) (same_own mine) h
-  fail_on hands.Check mine h = absurd (false≢true h.0.alone)
-  fail_on hands.Verify mine h = absurd (false≢true h.0.alone)
+  fail_on hand mine h = absurd (false≢true h.0.alone)
 
   pub fail_shown : {S F H T : Type 0} (hand : Hand) (e : Evidence S F H T) (why : Why) (b : By S F H T) → IsMine hand (calls_in (length before) pass.seen pass.mine) who → MayFail hand (shared s) (before ++ pass.seen) who
       → IsShown hand e (shared s) (before ++ pass.seen) who why b → IsShown hand e s value who why b

@@ -115,8 +115,6 @@ module _ {X : Type 0} {s : Start} {before : List Moment} {old new : Seated} {res
       (sym (ap (λ (o : Option Refusal). with_refusal (before ++ old.pass.seen) step o (calls_in (length before) old.pass.seen old.pass.mine)) i.untold))
 
   pub idle_called_by : (hand : Hand) (step : Step) (ok : X → Reply) → calls_in (length before) new.pass.seen new.pass.mine ≡ called_by hand (before ++ new.pass.seen) step ok result (calls_in (length before) old.pass.seen old.pass.mine)
-  idle_called_by hands.Unit step ok = idle_calls
-  idle_called_by hands.Delete step ok = idle_calls
-  idle_called_by hands.Restore step ok = idle_calls
   idle_called_by hands.Check step ok = idle_called step ok
   idle_called_by hands.Verify step ok = idle_called step ok
+  idle_called_by hand step ok = idle_calls

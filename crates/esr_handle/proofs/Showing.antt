@@ -105,5 +105,4 @@ pub shown_whole : {S F H T : Type 0} (hand : Hand) (e : Evidence S F H T) (s : S
 shown_whole hands.Unit e s calls old value who why b mine may w h = unit_alike e s value who why b (shown_on hands.Unit e (shared s) calls old value who why b mine may w h)
 shown_whole hands.Delete e s calls old value who why b mine may w h = delete_alike e s value who why b (shown_on hands.Delete e (shared s) calls old value who why b mine may w h)
 shown_whole hands.Restore e s calls old value who why b mine may w h = restore_alike e s value who why b (shown_on hands.Restore e (shared s) calls old value who why b mine may w h)
-shown_whole hands.Check e s calls old value who why b mine may w h = absurd (false≢true may.0.alone)
-shown_whole hands.Verify e s calls old value who why b mine may w h = absurd (false≢true may.0.alone)
+shown_whole hand e s calls old value who why b mine may w h = absurd (false≢true may.0.alone)

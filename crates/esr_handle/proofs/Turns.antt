@@ -279,13 +279,12 @@ entered s value new who step reply alone h =
     record { image = h.image; is = h.is ∙ ap (λ (log : List Moment). log ++ record { entry = record { who = who; step = step; reply = reply }; image = h.image } ∷ []) (same_log s value h.front who alone h.waited) }
 
 grounds_shared : (s : Start) (log new : List Moment) (who : ℕ) (e : StepRefusal) → log ≡ new → Grounds s log who e → Grounds (shared s) new who e
-grounds_shared s log new who steps.Memory same h = tt
 grounds_shared s log new who steps.TurnsSpent same h = subst (λ (l : List Moment). 2 ^ 33 ≤ s.earlier_turns + length l) same h
 grounds_shared s log new who (steps.Refused refusals.DepotFault) same h = h
 grounds_shared s log new who (steps.Refused (refusals.Aborted by)) same h =
     let of : IsOfOp s new who = subst (λ (l : List Moment). IsOfOp s l who) same h in
     record { ticket = of.ticket; out = of.out; unsettled = of.unsettled; no_drop = of.no_drop; no_delete = of.no_delete; no_reader = of.no_reader }
-grounds_shared s log new who (steps.Refused refusal) same h = tt
+grounds_shared s log new who e same h = tt
 
 module _ (s : Start) (before : List Moment) (pass turn : Seen) (value : List Moment) (t : Turned s before pass turn value) where
   -- who 0 is no ticket
@@ -294,11 +293,9 @@ module _ (s : Start) (before : List Moment) (pass turn : Seen) (value : List Mom
 
   -- a check and a verification are of who 0
   pub own_hand : (hand : Hand) (who : ℕ) → IsMine hand (calls_in (length before) pass.seen pass.mine) who → 1 ≤ who → IsOwn pass.seen pass.mine who
-  own_hand hands.Unit who mine some = own_ticket (length before) pass.seen pass.mine who mine
-  own_hand hands.Delete who mine some = own_ticket (length before) pass.seen pass.mine who mine
-  own_hand hands.Restore who mine some = own_ticket (length before) pass.seen pass.mine who mine
   own_hand hands.Check who mine some = absurd (omega (arith, mine, some))
   own_hand hands.Verify who mine some = absurd (omega (arith, mine, some))
+  own_hand hand who mine some = own_ticket (length before) pass.seen pass.mine who mine
 
   -- ---- what comes
 
@@ -327,9 +324,8 @@ module _ (s : Start) (before : List Moment) (pass turn : Seen) (value : List Mom
       → told ≡ was_told result → Outcome s value new who step ok result
       → Came before turn new told
   came new who step ok (Ok x) told own none is h = came_by new who step (ok x) told is own (gives_none (ok x) (none x)) h
-  came new who step ok (Err steps.Memory) told own none is h = came_not new who told is h.0
-  came new who step ok (Err steps.TurnsSpent) told own none is h = came_not new who told is h.0
   came new who step ok (Err (steps.Refused refusal)) told own none is h = came_by new who step (Refused (refusal_of refusal)) told is own (gives_none (Refused (refusal_of refusal)) refl) h.0
+  came new who step ok result told own none is h = came_not new who told is h.0
 
   -- a new ticket is none that was given
   next_fresh : AreNext → (new : List Moment) (ticket op : ℕ) (unit : Given) → Stepped s value new 0 TakeStep (Gave ticket op unit) → (k i : ℕ) → given_by (Gave ticket op unit) ≡ Some k → said ticket_given turn.seen i ≢ Some k
@@ -344,9 +340,8 @@ module _ (s : Start) (before : List Moment) (pass turn : Seen) (value : List Mom
   pub came_take : AreNext → (new : List Moment) (result : Result (Option Taken) StepRefusal) (told : Bool) → told ≡ was_told result → Outcome s value new 0 TakeStep take_reply result → Came before turn new told
   came_take next new (Ok None) told is h = came_by new 0 TakeStep NothingReady told is no_ticket (gives_none NothingReady refl) h
   came_take next new (Ok (Some u)) told is h = came_by new 0 TakeStep (Gave u.ready.ticket u.ready.op (given_of u.ready)) told is no_ticket (next_fresh next new u.ready.ticket u.ready.op (given_of u.ready) h) h
-  came_take next new (Err steps.Memory) told is h = came_not new 0 told is h.0
-  came_take next new (Err steps.TurnsSpent) told is h = came_not new 0 told is h.0
   came_take next new (Err (steps.Refused refusal)) told is h = came_by new 0 TakeStep (Refused (refusal_of refusal)) told is no_ticket (gives_none (Refused (refusal_of refusal)) refl) h.0
+  came_take next new result told is h = came_not new 0 told is h.0
 
   -- ---- what the worker learns
 
@@ -401,9 +396,8 @@ module _ (s : Start) (before : List Moment) (pass turn : Seen) (value : List Mom
     calls_ticket_by : {X : Type 0} (who : ℕ) (step : Step) (ok : X → Reply) (result : Result X StepRefusal) → 1 ≤ who → Outcome s value new who step ok result
         → calls_in (length before) home.seen home.mine ≡ calls_in (length before) pass.seen pass.mine
     calls_ticket_by who step ok (Ok x) some h = calls_step who step (ok x) some h
-    calls_ticket_by who step ok (Err steps.Memory) some h = calls_stay who h.0
-    calls_ticket_by who step ok (Err steps.TurnsSpent) some h = calls_stay who h.0
     calls_ticket_by who step ok (Err (steps.Refused refusal)) some h = calls_step who step (Refused (refusal_of refusal)) some h.0
+    calls_ticket_by who step ok result some h = calls_stay who h.0
 
     last_place : (step : Step) (reply : Reply) → Stepped s value new 0 step reply → length (before ++ turn.seen) ≡ length (before ++ home.seen) - 1
     last_place step reply h =
@@ -420,9 +414,8 @@ module _ (s : Start) (before : List Moment) (pass turn : Seen) (value : List Mom
     calls_client_by : {X : Type 0} (step : Step) (ok : X → Reply) (result : Result X StepRefusal) → Outcome s value new 0 step ok result
         → calls_in (length before) home.seen home.mine ≡ called (before ++ home.seen) step ok result (calls_in (length before) pass.seen pass.mine)
     calls_client_by step ok (Ok x) h = calls_one step (ok x) h
-    calls_client_by step ok (Err steps.Memory) h = calls_stay 0 h.0
-    calls_client_by step ok (Err steps.TurnsSpent) h = calls_stay 0 h.0
     calls_client_by step ok (Err (steps.Refused refusal)) h = calls_one step (Refused (refusal_of refusal)) h.0
+    calls_client_by step ok result h = calls_stay 0 h.0
 
     of_client : {X : Type 0} (who : ℕ) (step : Step) (ok : X → Reply) (result : Result X StepRefusal) → who ≡ 0 → Outcome s value new who step ok result
         → calls_in (length before) home.seen home.mine ≡ called (before ++ home.seen) step ok result (calls_in (length before) pass.seen pass.mine)
@@ -430,11 +423,9 @@ module _ (s : Start) (before : List Moment) (pass turn : Seen) (value : List Mom
 
     calls_hand_by : {X : Type 0} (hand : Hand) (who : ℕ) (step : Step) (ok : X → Reply) (result : Result X StepRefusal) → IsMine hand (calls_in (length before) pass.seen pass.mine) who → Outcome s value new who step ok result
         → calls_in (length before) home.seen home.mine ≡ called_by hand (before ++ home.seen) step ok result (calls_in (length before) pass.seen pass.mine)
-    calls_hand_by hands.Unit who step ok result mine h = calls_ticket_by who step ok result mine.some h
-    calls_hand_by hands.Delete who step ok result mine h = calls_ticket_by who step ok result mine.some h
-    calls_hand_by hands.Restore who step ok result mine h = calls_ticket_by who step ok result mine.some h
     calls_hand_by hands.Check who step ok result mine h = of_client who step ok result mine h
     calls_hand_by hands.Verify who step ok result mine h = of_client who step ok result mine h
+    calls_hand_by hand who step ok result mine h = calls_ticket_by who step ok result mine.some h
 
   pub calls_ticket : {X : Type 0} (new : List Moment) (home : Seen) (who : ℕ) (step : Step) (ok : X → Reply) (result : Result X StepRefusal) → 1 ≤ who → Homed before turn new home → Outcome s value new who step ok result
       → calls_in (length before) home.seen home.mine ≡ calls_in (length before) pass.seen pass.mine
@@ -458,6 +449,5 @@ taken_last place ticket op unit calls new some is =
 
 pub taken_home : (log : List Moment) (calls new all : List Call) (result : Result (Option Taken) StepRefusal) → new ≡ called log TakeStep take_reply result calls → IfOk result (λ o. IfSome o (λ u. HasTaken all u.ready.ticket))
     → IfOk result (λ o. IfSome o (λ u. HasTaken new u.ready.ticket))
-taken_home log calls new all (Ok None) is taken = tt
 taken_home log calls new all (Ok (Some u)) is taken = taken_last (length log - 1) u.ready.ticket u.ready.op (given_of u.ready) calls new taken.some is
-taken_home log calls new all (Err e) is taken = tt
+taken_home log calls new all result is taken = tt

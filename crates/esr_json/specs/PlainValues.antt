@@ -22,28 +22,7 @@ IsWhole-of_integer (negsuc n) low high = grind arith
 -- the names of the members are ASCII
 pub IsUtf8-key_text : (key : Key) → IsUtf8 (key_text key)
 IsUtf8-key_text keys.Bytes = IsUtf8-are_ascii _ refl
-IsUtf8-key_text keys.Files = IsUtf8-are_ascii _ refl
-IsUtf8-key_text keys.Id = IsUtf8-are_ascii _ refl
-IsUtf8-key_text keys.Indices = IsUtf8-are_ascii _ refl
-IsUtf8-key_text keys.Kind = IsUtf8-are_ascii _ refl
-IsUtf8-key_text keys.Length = IsUtf8-are_ascii _ refl
-IsUtf8-key_text keys.Moment = IsUtf8-are_ascii _ refl
-IsUtf8-key_text keys.Name = IsUtf8-are_ascii _ refl
-IsUtf8-key_text keys.Op = IsUtf8-are_ascii _ refl
-IsUtf8-key_text keys.Ops = IsUtf8-are_ascii _ refl
-IsUtf8-key_text keys.PartSize = IsUtf8-are_ascii _ refl
-IsUtf8-key_text keys.Pending = IsUtf8-are_ascii _ refl
-IsUtf8-key_text keys.PhysicalName = IsUtf8-are_ascii _ refl
-IsUtf8-key_text keys.Safe = IsUtf8-are_ascii _ refl
-IsUtf8-key_text keys.Sha256 = IsUtf8-are_ascii _ refl
-IsUtf8-key_text keys.ShardGenerations = IsUtf8-are_ascii _ refl
-IsUtf8-key_text keys.Shards = IsUtf8-are_ascii _ refl
-IsUtf8-key_text keys.Snapshots = IsUtf8-are_ascii _ refl
-IsUtf8-key_text keys.Source = IsUtf8-are_ascii _ refl
-IsUtf8-key_text keys.State = IsUtf8-are_ascii _ refl
-IsUtf8-key_text keys.Term = IsUtf8-are_ascii _ refl
-IsUtf8-key_text keys.Uuid = IsUtf8-are_ascii _ refl
-IsUtf8-key_text keys.Uuids = IsUtf8-are_ascii _ refl
+IsUtf8-key_text key = IsUtf8-are_ascii _ refl
 
 -- a list of plain values that are made in one way
 pub ItemsArePlain-map : {A : Type 0} (P : A → Type 0) (f : A → Data) → ((x : A) → P x → IsPlain (f x)) → (xs : List A) → AllByRecursion P xs → ItemsArePlain (items_of (map f xs))

@@ -3,7 +3,7 @@ use crate::Key;
 use std::alloc::{AllocError, AllocFailed};
 
 /// Why a text isn't one of its kind.
-#[derive(Clone, Copy, Debug, PartialEq, Eq)]
+#[derive(Clone, Copy, Debug)]
 pub enum Reason {
     /// No JSON text.
     Json,
@@ -24,7 +24,7 @@ pub enum Reason {
 }
 
 /// Why a text wasn't read.
-#[derive(Clone, Copy, Debug, PartialEq, Eq)]
+#[derive(Clone, Copy, Debug)]
 pub enum ReadRefusal {
     /// Memory ran out.
     Memory,

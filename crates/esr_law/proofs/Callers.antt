@@ -1,5 +1,5 @@
 -- The test blobs that who 0 committed: their names are of the layout, and none is `index.latest`.
-use Rattle.std.proofs.Common.{◌≡◌, ◌⊎◌, ℕ, zero, suc, List, ◌∷◌, Bool, true, false, Option, Some, None, refl, sym, ap, ◌∙◌, subst, inl, inr}
+use Rattle.std.proofs.Common.{◌≡◌, ◌⊎◌, ℕ, zero, List, ◌∷◌, Bool, true, false, Option, Some, None, refl, sym, ap, ◌∙◌, subst, inl, inr}
 use Rattle.std.specs.Prelude.{if◌then◌else◌}
 use Rattle.esr_model.specs.Names.{BlobName}
 use Rattle.esr_model.specs.Values.{Bytes, Has, Formats}
@@ -75,7 +75,6 @@ committed_after : (f : Formats) (c : Caller) (who : ℕ) (step : Step) (reply : 
 committed_after f c who (AskStep command) reply image name h = inl (either_none c no_caller (is_heard reply) name (λ x. x) h)
 committed_after f c who LookStep reply image name h = inl (either_none c (record no_caller { looked = true }) (is_heard reply) name (λ x. x) h)
 committed_after f c zero (ReadStep read) reply image name h = committed_read f c read reply image name h
-committed_after f c (suc k) (ReadStep read) reply image name h = inl h
 committed_after f c who step reply image name h = inl h
 
 not_done : (refusal : Refusal) → WasDone ≡ Refused refusal → ⊥

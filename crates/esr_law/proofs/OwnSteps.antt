@@ -173,21 +173,16 @@ module _ (f : Formats) (size : ℕ) (w : World) where
   pruning_step : (k : ℕ) (t : Ticket) (there : fin.get w.tickets k ≡ Some t) (c : IsCleaning t) (prune : Prune) (reply : Reply) (image : Option Image) → PruneAllows f w k prune reply image
       → Own f w k t (PruneStep prune) reply image (answered f w k (PruneStep prune) reply image)
   pruning_step k t there c prune reply image (allowed.FetchingShard j name im g found) = OnKeep (read_kept k t there c name (told_blob f im name))
-  pruning_step k t there c prune reply image (allowed.ShardMissing j name im g gone) = OnKeep (kept k t there c)
-  pruning_step k t there c prune reply image (allowed.FetchShardFails j name im g same) = OnKeep (kept k t there c)
   pruning_step k t there c prune reply image (allowed.Planning j shards im p fits back same) =
       OnKeep (kept_with k t there c _ (kept_by k t there c (planned f shards w.next_id) refl refl (inl refl) refl (fin.get w.tickets k) there) _ _)
-  pruning_step k t there c prune reply image (allowed.PlanSpent j shards im p spent same) = OnKeep (kept k t there c)
   pruning_step k t there c prune reply image (allowed.SettlingDelete j im s present same) =
       let h = settled_up k t there c s (fin.get w.tickets k) there in OnSettle s (same_out k t there c s.t s.may.out) h.0 h.1
-  pruning_step k t there c prune reply image (allowed.SettleDeleteStale j im s apart same) = OnKeep (kept k t there c)
   pruning_step k t there c prune reply image (allowed.SettleDeleteFails j im s present same) =
       let up : World = delete_settled f w k (fin.get w.tickets k) in
       OnFall refl (either_fallen k t there c up w (has_text im (f.cluster.text (record_of up))) (fallen_settled k t there c s) (fallen_kept k t there c w (kept k t there c)))
-  pruning_step k t there c prune reply image (allowed.RemovingDoomed j names im r removed) = OnKeep (kept k t there c)
-  pruning_step k t there c prune reply image (allowed.RemoveDoomedFails j names im r removes) = OnKeep (kept k t there c)
   pruning_step k t there c prune reply image (allowed.EndingDelete j im d same) = OnKeep (kept_by k t there c (λ (x : Ticket). record x { out = false }) refl refl (inl refl) refl (fin.get w.tickets k) there)
   pruning_step k t there c prune reply image (allowed.FailingDelete j why im d same) = OnKeep (delete_over k t there c (fin.get w.tickets k) there)
+  pruning_step k t there c prune reply image other = OnKeep (kept k t there c)
 
   pub own_step : (k : ℕ) (t : Ticket) (there : fin.get w.tickets k ≡ Some t) (c : IsCleaning t) (step : Step) (reply : Reply) (image : Option Image) → IsUnits step → Allows f size w k step reply image
       → Own f w k t step reply image (answered f w k step reply image)
@@ -198,37 +193,26 @@ module _ (f : Formats) (size : ℕ) (w : World) where
   own_step k t there c (ReadStep read) reply image unit a = absurd unit
   own_step k t there c (PruneStep prune) reply image unit (allowed.Pruning j p rep im h) = pruning_step k t there c p rep im h
   own_step k t there c (DrawStep n) reply image unit (allowed.Drawing j m first im d same) = absurd (no_shard k t there c d.may.t d.may.out d.may.shard)
-  own_step k t there c (DrawStep n) reply image unit (allowed.DrawSpent j m im d spent same) = OnKeep (kept k t there c)
-  own_step k t there c (BeginStep name) reply image unit (allowed.Beginning j n im b same) = OnKeep (kept k t there c)
-  own_step k t there c (BeginStep name) reply image unit (allowed.BeginningLatest j im p same) = OnKeep (kept k t there c)
   own_step k t there c (BeginStep name) reply image unit (allowed.BeginFails j n im b same) = OnKeep (either_kept k t there c (tried w k) w (is_latest n) (tried_kept k t there c) (kept k t there c))
   own_step k t there c (BeginStep name) reply image unit (allowed.BeginLatestFails j im p same) = OnKeep (tried_kept k t there c)
   own_step k t there c (CommitStep name) reply image unit (allowed.Committing j n im b adds) = OnKeep (put_kept k t there c n (told_blob f im n))
   own_step k t there c (CommitStep name) reply image unit (allowed.Finding j n im b found) = absurd (no_final k t there c b.t b.out b.info b.results b.made b.work)
-  own_step k t there c (CommitStep name) reply image unit (allowed.Taken j n im b aside found) = OnKeep (kept k t there c)
-  own_step k t there c (CommitStep name) reply image unit (allowed.CommitFails j n im b leaves) = OnKeep (kept k t there c)
   own_step k t there c LatestStep reply image unit (allowed.Replacing j im p named put) = OnKeep (tried_kept k t there c)
   own_step k t there c LatestStep reply image unit (allowed.ReplaceFails j im p named puts) = OnKeep (tried_kept k t there c)
   own_step k t there c (FetchStep name) reply image unit (allowed.Fetching j n im g found) = OnKeep (read_kept k t there c n (told_blob f im n))
-  own_step k t there c (FetchStep name) reply image unit (allowed.Missing j n im g gone) = OnKeep (kept k t there c)
-  own_step k t there c (FetchStep name) reply image unit (allowed.FetchFails j n im g same) = OnKeep (kept k t there c)
   own_step k t there c (ListStep from) reply image unit (allowed.Listing j after page im g shape here) =
       let h = paged k t there c page (fin.get w.tickets k) there in OnPage after page refl refl (g.from_is ∙ ap (λ (x : Ticket). last_text x.listed) (same_out k t there c g.t g.out)) here h.0 h.1
-  own_step k t there c (ListStep from) reply image unit (allowed.ListFails j after im g same) = OnKeep (kept k t there c)
   own_step k t there c RaiseStep reply image unit (allowed.Raising j n im r same) = OnKeep (raise_kept k t there c r.may.t r.may.out r.may.once)
-  own_step k t there c RaiseStep reply image unit (allowed.RaiseStale j im r apart same) = OnKeep (kept k t there c)
-  own_step k t there c RaiseStep reply image unit (allowed.RaiseSpent j im r present spent same) = OnKeep (kept k t there c)
   own_step k t there c RaiseStep reply image unit (allowed.RaiseFails j im r same) =
       OnFall refl
       (either_fallen k t there c (raised w k) w (has_text im (f.cluster.text (record_of (raised w k)))) (fallen_kept k t there c (raised w k) (raise_kept k t there c r.may.t r.may.out r.may.once)) (fallen_kept k t there c w (kept k t there c)))
   own_step k t there c SettleStep reply image unit (allowed.Settling j im s same) = absurd (no_final k t there c s.t s.may.out s.info s.results s.made s.work)
-  own_step k t there c SettleStep reply image unit (allowed.SettleStale j n u s im may apart same) = OnKeep (kept k t there c)
   own_step k t there c SettleStep reply image unit (allowed.SettleFails j im s same) = absurd (no_final k t there c s.t s.may.out s.info s.results s.made s.work)
   own_step k t there c (DoneStep result) reply image unit (allowed.Doing j r im d same) = absurd (no_shard k t there c d.t d.out (subst IsShard (sym d.is) tt))
   own_step k t there c (FailedStep why) reply image unit (allowed.Failing j y im d same) = OnKeep (failure_over k t there c (fin.get w.tickets k) there)
   own_step k t there c FinishStep reply image unit (allowed.Finishing j im d same) = OnKeep (kept_by k t there c (λ (x : Ticket). record x { out = false }) refl refl (inl refl) refl (fin.get w.tickets k) there)
   own_step k t there c DroppedStep reply image unit (allowed.Dropping j im d same) = OnKeep (drop_over k t there c (fin.get w.tickets k) there)
-  own_step k t there c DroppedStep reply image unit (allowed.DropStale j im may apart same) = OnKeep (kept k t there c)
   own_step k t there c DroppedStep reply image unit (allowed.DropFails j im d same) =
       let up : World = dropped_of w k (fin.get w.tickets k) in
       OnFall refl (either_fallen k t there c up w (has_text im (f.cluster.text (record_of up))) (fallen_kept k t there c up (drop_over k t there c (fin.get w.tickets k) there)) (fallen_kept k t there c w (kept k t there c)))
+  own_step k t there c step reply image unit other = OnKeep (kept k t there c)

@@ -12,10 +12,10 @@ use Rattle.esr_core.specs.Restores.{restore_shard}
 use Rattle.esr_core.specs.Steps.{with_ticket, noting, listing}
 use Rattle.esr_core.specs.Pruning.{planned}
 use Rattle.esr_core.specs.Changes.{IsReaders, IsUnits, Maker, ClientStep, ReaderStep, UnitStep}
-use Rattle.esr_core.specs.Entry.{Asked, Given, GivenShard, GivenClone, GivenFinalize, GivenDrop, GivenRestore, GivenDelete, GivenCleanup, Read, ReadBlob, RestoredShard, DrawTest, CommitTest, ReadFails, Prune, FetchShard, PlanShards, SettlePruned, RemoveDoomed, EndDelete, DeleteFails, Step, AskStep, TakeStep, DrawStep, BeginStep, CommitStep, LatestStep, FetchStep, ListStep, RaiseStep, SettleStep, DoneStep, FailedStep, FinishStep, DroppedStep, ElectStep, ReadStep, PruneStep, Refusal, GenerationsSpent, TermsSpent, IdsSpent, DepotFault, Reply, Gave, DrawnFrom, WasDone, WasThere, WasFetched, WasListed, HasEnded, Refused, Moment}
+use Rattle.esr_core.specs.Entry.{Asked, Given, GivenShard, GivenClone, GivenFinalize, GivenRestore, Read, ReadBlob, RestoredShard, DrawTest, CommitTest, ReadFails, Prune, FetchShard, PlanShards, SettlePruned, RemoveDoomed, EndDelete, DeleteFails, Step, AskStep, TakeStep, DrawStep, BeginStep, CommitStep, LatestStep, FetchStep, ListStep, RaiseStep, SettleStep, DoneStep, FailedStep, FinishStep, DroppedStep, ElectStep, ReadStep, PruneStep, Refusal, GenerationsSpent, TermsSpent, IdsSpent, DepotFault, Reply, Gave, DrawnFrom, WasDone, WasThere, WasFetched, WasListed, HasEnded, Refused, Moment}
 use Rattle.esr_core.specs.After.{shard_of, taken_shard, taken_restore_shard, taken_restore, taken_by, with_given, committing, told_blob, fetching, settled_by, settled_of, done_by, done_of, is_stale, failed_by, failed_of, dropped_of, delete_settled_by, delete_settled, delete_failed_by, delete_failed, prune_step, read_told, shard_over, read_over, read_step, read_by, done_step, swaps_record, has_text, fallen, is_latest, tried, test_left, faulted, answered, after}
 use Rattle.esr_core.specs.Numbers.{ids_by, DrawsFew}
-use Rattle.esr_core.specs.Causes.{IsRule, RefusalCause, OfRule, OfCleanup, OfName, OfTestName, OfTerm, OfIds, OfGenerations, OfTerms, OfCall}
+use Rattle.esr_core.specs.Causes.{IsRule, RefusalCause, OfRule, OfIds, OfGenerations, OfTerms}
 use Rattle.esr_core.specs.Allowed.{Blocks, ByFailedSwap, ByDelete, IsBlocked, Allowed}
 use Rattle.esr_core.specs.History.{IsLegal}
 use Rattle.esr_law.specs.Spent.{terms_by, generations_by, terms_in, generations_in, ids_in, SpentSo}
@@ -131,17 +131,13 @@ module _ (f : Formats) (asks : AsksFew f) (w : World) where
   taken_same o (GivenShard index number base) None = same_numbers w
   taken_same o (GivenClone index number source base) (Some op) = taken_shard_same o op base (shard_of op.shards index number)
   taken_same o (GivenClone index number source base) None = same_numbers w
-  taken_same o (GivenFinalize info results) (Some op) = record { term = refl; pending = refl; next = refl }
   taken_same o (GivenFinalize info results) None = same_numbers w
-  taken_same o GivenDrop op = record { term = refl; pending = refl; next = refl }
   taken_same o (GivenRestore index number uuid) op = taken_restore_same o index number (fin.get w.restores o)
-  taken_same o (GivenDelete uuids) op = record { term = refl; pending = refl; next = refl }
-  taken_same o GivenCleanup op = record { term = refl; pending = refl; next = refl }
+  taken_same o unit op = record { term = refl; pending = refl; next = refl }
 
   settled_by_same : (k : ℕ) (t : Ticket) (s : Option Swap) (n : Option ℕ) → SameNumbers w (settled_by f w k t s n)
   settled_by_same k t (Some s) (Some n) = record { term = refl; pending = refl; next = refl }
-  settled_by_same k t (Some s) None = same_numbers w
-  settled_by_same k t None n = same_numbers w
+  settled_by_same k t s n = same_numbers w
 
   settled_same : (k : ℕ) (o : Option Ticket) → SameNumbers w (settled_of f w k o)
   settled_same k None = same_numbers w
@@ -169,8 +165,7 @@ module _ (f : Formats) (asks : AsksFew f) (w : World) where
 
   delete_settled_by_same : (k : ℕ) (t : Ticket) (s : Option Swap) (n : Option ℕ) → SameNumbers w (delete_settled_by f w k t s n)
   delete_settled_by_same k t (Some s) (Some n) = record { term = refl; pending = refl; next = refl }
-  delete_settled_by_same k t (Some s) None = same_numbers w
-  delete_settled_by_same k t None n = same_numbers w
+  delete_settled_by_same k t s n = same_numbers w
 
   delete_settled_same : (k : ℕ) (o : Option Ticket) → SameNumbers w (delete_settled f w k o)
   delete_settled_same k None = same_numbers w
@@ -206,8 +201,7 @@ module _ (f : Formats) (asks : AsksFew f) (w : World) where
 
   test_same : (name : BlobName) (was now : Option Bytes) → SameNumbers w (test_left w name was now)
   test_same name None (Some bytes) = record { term = refl; pending = refl; next = refl }
-  test_same name None None = same_numbers w
-  test_same name (Some was) now = same_numbers w
+  test_same name was now = same_numbers w
 
   -- who 0 draws an id for a verification
   read_counts : (k : ℕ) (read : Read) (reply : Reply) (image : Option Image) → Counts w 0 (ReadStep read) (read_by f w k read reply image)
@@ -355,14 +349,10 @@ elected_here w who step nobody elects spent =
 
 cause_here : (f : Formats) (size : ℕ) (w : World) (who : ℕ) (step : Step) (refusal : Refusal) (image : Option Image) → RefusalCause f size w who step image refusal → SpentHere w who step refusal
 cause_here f size w who step refusal image (OfRule r command is rule) = rule_here w who step r rule
-cause_here f size w who step refusal image (OfCleanup command d x is there clean) = tt
-cause_here f size w who step refusal image (OfName name c is aside there) = tt
-cause_here f size w who step refusal image (OfTestName name own is there) = tt
-cause_here f size w who step refusal image (OfTerm t out apart) = tt
 cause_here f size w who step refusal image (OfIds count few spent) = (count, few, spent)
 cause_here f size w who step refusal image (OfGenerations spent) = spent
 cause_here f size w who step refusal image (OfTerms nobody elects spent) = elected_here w who step nobody elects spent
-cause_here f size w who step refusal image OfCall = tt
+cause_here f size w who step refusal image other = tt
 
 -- each refusal has its cause, unless the step was not looked at
 abbrev pub Caused : Formats → ℕ → Type 0

@@ -57,8 +57,7 @@ Earlier s (First n) t = s < t
 
 pub earlier : (s t : ℕ) (how : Leaves) → s < t → Earlier s how t
 earlier s t Old lt = omega arith
-earlier s t New lt = lt
-earlier s t (First n) lt = lt
+earlier s t how lt = lt
 
 late : (came s t : ℕ) → s ≤ t → came ≡ t + 1 → nat_le came s ≡ false
 late came s t le is = grind (arith, nat_tests)

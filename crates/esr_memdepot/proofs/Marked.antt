@@ -97,9 +97,8 @@ blind t (First m) n g k is = marked_has (λ x. left_blob t (First m) x ≡ left_
 
 -- a mark of a later call
 later : (r t i : ℕ) (how : Leaves) → Earlier r how t → gone_later r how (Some (record { at = t + 1; place = i })) ≡ true
-later r t i Old le = grind (arith, nat_tests)
-later r t i New lt = grind (arith, nat_tests)
 later r t i (First m) lt = let b : nat_lt (r + 1) (t + 1) ≡ true = grind (arith, nat_tests) in rw b refl
+later r t i how le = grind (arith, nat_tests)
 
 -- ---- tests that see it
 

@@ -8,9 +8,6 @@ use Rattle.std.specs.Cmp.Lexicographic.{slice_cmp, nat_list_cmp_total}
 use Rattle.esr_depot.specs.Image.{Blobs}
 use Rattle.esr_depot.specs.Pages.{tied as equal}
 
-pub tie : List ℕ → List ℕ → Bool
-tie = eq_by_cmp (slice_cmp nat_cmp)
-
 pub tied : (x y : List ℕ) → eq_by_cmp (slice_cmp nat_cmp) x y ≡ true → x ≡ y
 tied x y e = slice_cmp-IsAntisymmetric nat_cmp-IsAntisymmetric x y (equal (slice_cmp nat_cmp x y) e)
 
@@ -41,8 +38,7 @@ remove-put_same m n k v is = rw (sym (tied n k is)) (same _ _ (λ q. get-out (in
 
 crossed : (a b : Bool) (v : List ℕ) (x : Option (List ℕ)) → (a ≡ true → b ≡ true → ⊥) → cond a None (cond b (Some v) x) ≡ cond b (Some v) (cond a None x)
 crossed true true v x apart = absurd (apart refl refl)
-crossed true false v x apart = refl
-crossed false b v x apart = refl
+crossed a b v x apart = refl
 
 -- under another name the order of the two doesn't count
 pub remove-put_other : (m : Blobs) (n k v : List ℕ) → eq_by_cmp (slice_cmp nat_cmp) n k ≡ false → remove (insert m k v) n ≡ insert (remove m n) k v
@@ -72,6 +68,3 @@ pub of_first : {A : Type 0} (xs : List A) (n : ℕ) (x : A) → Contains (take n
 of_first xs n x has =
     let short = length-take n xs in
     (has.0, omega (arith, has.1), sym (get_or-take n xs has.0 x (omega (arith, has.1))) ∙ has.2)
-
-pub all_of : {A : Type 0} (xs : List A) → All (Contains xs) xs
-all_of xs k d lt = (k, lt, any_default xs k (get_or xs k d) d lt)

@@ -12,7 +12,7 @@ use Rattle.esr_memdepot.specs.Meter.{not_served, counted_before}
 use Rattle.esr_memdepot.specs.Plan.{is_new}
 use Rattle.esr_memdepot.specs.declared.meter.Meter.{Meter}
 use Rattle.esr_memdepot.specs.declared.plan.Call.{Call}
-use Rattle.esr_memdepot.specs.declared.meter.Turn.TheVariants.{Over, Served, Fails}
+use Rattle.esr_memdepot.specs.declared.meter.Turn.TheVariants.{Fails}
 use Rattle.esr_memdepot.specs.declared.meter.Turn.{Turn}
 use Rattle.esr_memdepot.specs.declared.blob.KeptBlob.{KeptBlob}
 use Rattle.esr_memdepot.specs.declared.text.KeptText.{KeptText}
@@ -136,6 +136,5 @@ went_as before after call result result' expected expected' now w wanting failed
 
 -- a turn leaves an image that stays
 pub left_by-same : (turn : Turn) (i : Image) → left_by turn i i ≡ i
-left_by-same Over i = refl
-left_by-same Served i = refl
 left_by-same (Fails leaves) i = elim (is_new leaves) as (λ b. (if b then i else i) ≡ i) [ true ↦ refl | false ↦ refl ]
+left_by-same turn i = refl

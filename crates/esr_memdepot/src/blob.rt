@@ -11,7 +11,7 @@ use esr_seq::{Bytes, Text};
 use std::alloc::{AllocError, Global};
 
 /// The call that took a blob away, by the clock after it, and the blob's place among the names of that call.
-#[derive(Clone, Copy, Debug, PartialEq, Eq)]
+#[derive(Clone, Copy)]
 pub struct Gone {
     pub at: u64,
     pub place: u64,

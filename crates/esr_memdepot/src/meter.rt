@@ -6,7 +6,7 @@ ghost use Rattle.esr_memdepot.specs.Meter.{sure_calls, not_served, count_of, cou
 use crate::plan::{Call, Leaves, Plan, planned_failure};
 
 /// How a call goes: the clock stands at its end, it is served, or it fails.
-#[derive(Clone, Copy, Debug, PartialEq, Eq)]
+#[derive(Clone, Copy)]
 pub enum Turn {
     Over,
     Served,
@@ -14,7 +14,7 @@ pub enum Turn {
 }
 
 /// How often each kind of call was made.
-#[derive(Clone, Copy, Debug)]
+#[derive(Clone, Copy)]
 pub struct Counts {
     pub begins: u64,
     pub commits: u64,

@@ -15,7 +15,7 @@ use std::marker::Model;
 
 /// The info of a snapshot: what its shards hold together, in bytes and files (each below 2^63), its
 /// indices in the command's order, its moment, name, state and uuid.
-#[derive(Debug, Drop)]
+#[derive(Debug)]
 pub struct SnapInfo {
     pub bytes: u64,
     pub files: u64,
@@ -24,6 +24,21 @@ pub struct SnapInfo {
     pub name: SnapName,
     pub state: u8,
     pub uuid: Id,
+}
+
+impl Drop for SnapInfo {
+    // Not derived: each crate above would prove a derived one again.
+    fn drop(self) {
+        let SnapInfo {
+            bytes: _,
+            files: _,
+            indices: _indices,
+            moment: _,
+            name: _name,
+            state: _,
+            uuid: _,
+        } = self;
+    }
 }
 
 impl Model for SnapInfo {

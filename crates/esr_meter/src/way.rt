@@ -4,7 +4,7 @@ use esr_source::ListedFile;
 use std::alloc::{AllocError, Global};
 
 /// What is done to files.
-#[derive(Clone, Copy, Debug, PartialEq, Eq)]
+#[derive(Clone, Copy)]
 pub(crate) enum Work {
     /// They are read a first time, for their prints.
     Read,

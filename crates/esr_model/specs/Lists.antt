@@ -10,9 +10,8 @@ use Rattle.esr_model.specs.Image.{AllPairs, Has}
 
 pub AllPairs-map : {A B : Type 0} {R S : A → B → Type 0} → ((x : A) (y : B) → R x y → S x y) → (xs : List A) (ys : List B) → AllPairs R xs ys → AllPairs S xs ys
 AllPairs-map f [] [] h = tt
-AllPairs-map f [] (y ∷ ys) h = h
-AllPairs-map f (x ∷ xs) [] h = h
 AllPairs-map f (x ∷ xs) (y ∷ ys) h = (f x y h.0, AllPairs-map f xs ys h.1)
+AllPairs-map f xs ys h = h
 
 -- with what each pair is a member of
 pub AllPairs-with : {A B : Type 0} (R S : A → B → Type 0) (xs : List A) (ys : List B) → ((x : A) (y : B) → Has xs x → R x y → S x y) → AllPairs R xs ys → AllPairs S xs ys

@@ -1,5 +1,5 @@
 -- Sixteen bytes and the number that they spell, and what base64 decodes.
-use Rattle.std.proofs.Common.{◌≡◌, ℕ, ◌+◌, ◌*◌, ◌/◌, ◌%◌, ◌^◌, ◌<◌, ◌≤◌, nat_lt, Bool, true, false, cond, List, [], ◌∷◌, length, get_or, refl, sym, ap, ◌∙◌, arith, inl, inr, add-zero, ◌-◌}
+use Rattle.std.proofs.Common.{◌≡◌, ℕ, ◌+◌, ◌*◌, ◌/◌, ◌%◌, ◌^◌, ◌<◌, ◌≤◌, nat_lt, Bool, false, cond, List, [], ◌∷◌, length, get_or, refl, sym, ap, ◌∙◌, arith, inl, inr, add-zero, ◌-◌}
 use Rattle.std.specs.Int.{w128, to_be_bytes, from_be_bytes}
 use Rattle.std.specs.declared.option.Option.{Option}
 use Rattle.std.specs.declared.option.Option.TheVariants.{None, Some}
@@ -45,24 +45,8 @@ bytes_16 a b c d e f g h i j k l m o p q n a' b' c' d' e' f' g' h' i' j' k' l' m
 
 sixteen : (bs : List ℕ) → length bs ≡ 16 → get_or bs 0 0 ∷ get_or bs 1 0 ∷ get_or bs 2 0 ∷ get_or bs 3 0 ∷ get_or bs 4 0 ∷ get_or bs 5 0 ∷ get_or bs 6 0
     ∷ get_or bs 7 0 ∷ get_or bs 8 0 ∷ get_or bs 9 0 ∷ get_or bs 10 0 ∷ get_or bs 11 0 ∷ get_or bs 12 0 ∷ get_or bs 13 0 ∷ get_or bs 14 0 ∷ get_or bs 15 0 ∷ [] ≡ bs
-sixteen [] len = absurd (omega arith)
-sixteen (a ∷ []) len = absurd (omega arith)
-sixteen (a ∷ b ∷ []) len = absurd (omega arith)
-sixteen (a ∷ b ∷ c ∷ []) len = absurd (omega arith)
-sixteen (a ∷ b ∷ c ∷ d ∷ []) len = absurd (omega arith)
-sixteen (a ∷ b ∷ c ∷ d ∷ e ∷ []) len = absurd (omega arith)
-sixteen (a ∷ b ∷ c ∷ d ∷ e ∷ f ∷ []) len = absurd (omega arith)
-sixteen (a ∷ b ∷ c ∷ d ∷ e ∷ f ∷ g ∷ []) len = absurd (omega arith)
-sixteen (a ∷ b ∷ c ∷ d ∷ e ∷ f ∷ g ∷ h ∷ []) len = absurd (omega arith)
-sixteen (a ∷ b ∷ c ∷ d ∷ e ∷ f ∷ g ∷ h ∷ i ∷ []) len = absurd (omega arith)
-sixteen (a ∷ b ∷ c ∷ d ∷ e ∷ f ∷ g ∷ h ∷ i ∷ j ∷ []) len = absurd (omega arith)
-sixteen (a ∷ b ∷ c ∷ d ∷ e ∷ f ∷ g ∷ h ∷ i ∷ j ∷ k ∷ []) len = absurd (omega arith)
-sixteen (a ∷ b ∷ c ∷ d ∷ e ∷ f ∷ g ∷ h ∷ i ∷ j ∷ k ∷ l ∷ []) len = absurd (omega arith)
-sixteen (a ∷ b ∷ c ∷ d ∷ e ∷ f ∷ g ∷ h ∷ i ∷ j ∷ k ∷ l ∷ m ∷ []) len = absurd (omega arith)
-sixteen (a ∷ b ∷ c ∷ d ∷ e ∷ f ∷ g ∷ h ∷ i ∷ j ∷ k ∷ l ∷ m ∷ o ∷ []) len = absurd (omega arith)
-sixteen (a ∷ b ∷ c ∷ d ∷ e ∷ f ∷ g ∷ h ∷ i ∷ j ∷ k ∷ l ∷ m ∷ o ∷ p ∷ []) len = absurd (omega arith)
 sixteen (a ∷ b ∷ c ∷ d ∷ e ∷ f ∷ g ∷ h ∷ i ∷ j ∷ k ∷ l ∷ m ∷ o ∷ p ∷ q ∷ []) len = refl
-sixteen (a ∷ b ∷ c ∷ d ∷ e ∷ f ∷ g ∷ h ∷ i ∷ j ∷ k ∷ l ∷ m ∷ o ∷ p ∷ q ∷ more ∷ rest) len = absurd (omega arith)
+sixteen bs len = absurd (omega arith)
 
 pub be_bytes_16 : (bs : List ℕ) (n : ℕ) → length bs ≡ 16 → ((i : ℕ) → get_or bs i 0 < 256) → n ≡ from_be_bytes w128 bs → to_be_bytes w128 n ≡ bs
 be_bytes_16 bs n l small is =
@@ -75,10 +59,8 @@ slice_ok None None false len out n h = elim (cases_Bool (nat_lt out len)) [
   | inl big ↦ cc (rw big at h)
   | inr fits ↦ let e = rw fits at h in (refl, cc)
 ]
-slice_ok None None true len out n h = cc
 slice_ok None (Some e) false len out n h = cc
-slice_ok None (Some e) true len out n h = cc
-slice_ok (Some e) rest full len out n h = cc
+slice_ok lone rest full len out n h = cc
 
 pub slice_fits : (lone rest : Option DecodeError) (full : Bool) (len out : ℕ)
     → or_else lone rest ≡ None → full ≡ false → len ≤ out → or_error lone (cond full (Err OutputSliceTooSmall) (or_error rest (bytes_fit len out))) ≡ Ok len

@@ -1,5 +1,5 @@
 -- The texts of ids.
-use Rattle.std.specs.Prelude.{◌≡◌, ℕ, ◌<◌, ◌^◌, List, length, ◌==◌, if◌then◌else◌, Option, None, Some, nat_lt, option_map, option_and_then}
+use Rattle.std.specs.Prelude.{ℕ, ◌^◌, List, length, ◌==◌, if◌then◌else◌, Option, None, Some, nat_lt, option_map, option_and_then}
 use Rattle.std.specs.Result.{result_ok}
 use Rattle.std.specs.Int.{w128, to_be_bytes, from_be_bytes}
 use Rattle.esr_names.specs.declared.ids.Id.{Id}
@@ -9,10 +9,6 @@ use Rattle.base64.specs.GeneralPurpose.{encode_of, decode_of}
 -- the URL-safe base64 of RFC 4648, with no padding, of the sixteen bytes of a number, the highest first
 unfoldable pub id_text : ℕ → List ℕ
 id_text n = encode_of url_safe_no_pad (to_be_bytes w128 n)
-
--- the bytes are the text of some id
-abbrev pub IsIdText : List ℕ → Type 0
-IsIdText bytes = (n : ℕ) × (n < 2 ^ 128) × (bytes ≡ id_text n)
 
 -- the number that sixteen bytes spell
 unfoldable pub of_16_bytes : List ℕ → Option ℕ

@@ -6,11 +6,22 @@ use esr_seq::Seq;
 use std::alloc::{AllocError, Global};
 
 /// An index: its id, its name, and how many shards it has.
-#[derive(Debug, Drop)]
+#[derive(Debug)]
 pub struct IndexRef {
     pub id: Id,
     pub name: IndexName,
     pub shards: u32,
+}
+
+impl Drop for IndexRef {
+    // Not derived: each crate above would prove a derived one again.
+    fn drop(self) {
+        let IndexRef {
+            id: _,
+            name: _name,
+            shards: _,
+        } = self;
+    }
 }
 
 impl IndexRef {

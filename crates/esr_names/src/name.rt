@@ -12,7 +12,7 @@ use std::marker::Model;
 use thiserror::Error;
 
 /// A rule that a name may break.
-#[derive(Clone, Copy, Debug, PartialEq, Eq)]
+#[derive(Clone, Copy, Debug)]
 pub enum Rule {
     /// The name has no bytes.
     Empty,
@@ -31,14 +31,14 @@ pub enum Rule {
 }
 
 /// The first rule that a name breaks, and the place of the byte in it.
-#[derive(Clone, Copy, Debug, PartialEq, Eq)]
+#[derive(Clone, Copy, Debug)]
 pub struct BadName {
     pub place: usize,
     pub rule: Rule,
 }
 
 /// Why there is no name.
-#[derive(Clone, Copy, Debug, PartialEq, Eq, Error)]
+#[derive(Clone, Copy, Debug, Error)]
 pub enum NameRefusal {
     #[error("out of memory")]
     Memory,
@@ -107,9 +107,16 @@ fn index_name_fault(bytes: &[u8]) -> Option<BadName>
 }
 
 /// The name of a snapshot, which a contract sees as its bytes.
-#[derive(Debug, Drop)]
+#[derive(Debug)]
 pub struct SnapName {
     text: String,
+}
+
+impl Drop for SnapName {
+    // Not derived: each crate above would prove a derived one again.
+    fn drop(self) {
+        let SnapName { text: _text } = self;
+    }
 }
 
 impl Model for SnapName {
@@ -197,9 +204,16 @@ impl Ord for SnapName {
 }
 
 /// The name of an index, which a contract sees as its bytes.
-#[derive(Debug, Drop)]
+#[derive(Debug)]
 pub struct IndexName {
     text: String,
+}
+
+impl Drop for IndexName {
+    // Not derived: each crate above would prove a derived one again.
+    fn drop(self) {
+        let IndexName { text: _text } = self;
+    }
 }
 
 impl Model for IndexName {

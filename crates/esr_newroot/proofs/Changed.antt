@@ -1,5 +1,5 @@
 -- A root with another generation of a shard, by the names of its indices.
-use Rattle.std.proofs.Common.{◌≡◌, ℕ, zero, suc, ◌+◌, ◌-◌, ◌<◌, true, false, List, [], ◌∷◌, ◌++◌, length, map, set, replicate, Option, Some, None, option_map, refl, sym, ap, ◌∙◌, subst, arith, inl, inr}
+use Rattle.std.proofs.Common.{◌≡◌, ℕ, suc, ◌+◌, ◌-◌, ◌<◌, true, false, List, [], ◌∷◌, ◌++◌, length, map, set, replicate, Option, Some, None, option_map, refl, sym, ap, ◌∙◌, subst, arith, inl, inr}
 use Rattle.std.specs.Prelude.{if◌then◌else◌}
 use Rattle.std.specs.List.{list_any}
 use Rattle.std.specs.Str.{bytes_eq}
@@ -23,9 +23,8 @@ abbrev pub numbers : List (Option Id) → List (Option ℕ)
 numbers gs = map (option_map number_of) gs
 
 generation_number : (gs : List (Option Id)) (k : ℕ) → option_map number_of (generation_in gs k) ≡ at_shard (numbers gs) k
-generation_number [] k = refl
-generation_number (g ∷ gs) zero = refl
 generation_number (g ∷ gs) (suc k) = generation_number gs k
+generation_number gs k = refl
 
 pub generation_named : (is : List CodeIndex) (name : Bytes) (k : ℕ) → option_map number_of (generation_among is name k) ≡ at_shard_of (index_named name (map root_index_of is)) k
 generation_named [] name k = refl

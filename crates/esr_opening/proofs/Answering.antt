@@ -1,14 +1,11 @@
 -- What steps answer, one after another.
-use Rattle.std.proofs.Common.{◌≡◌, inl, inr, ℕ, ◌≤◌, true, Option, Some, Result, Ok, Err, refl, sym, ◌∙◌, subst, arith}
+use Rattle.std.proofs.Common.{◌≡◌, inl, inr, ℕ, ◌≤◌, true, Option, Some, Result, Ok, Err, sym, ◌∙◌, subst, arith}
 use Rattle.esr_depot.specs.Image.{Image as Held}
-use Rattle.esr_depot.specs.declared.error.CallError.{CallError}
-use Rattle.esr_depot.specs.declared.error.CallError.TheVariants.{Memory, Failed}
 use Rattle.esr_depot.specs.Calls.{HasCause}
 use Rattle.std.specs.Result.{IsErrAnd, IfErr}
 use Rattle.esr_opening.specs.Found.{Obstacle}
 use Rattle.esr_opening.specs.Opening.{IsFault}
-use Rattle.esr_opening.specs.Refusals.{call_refusal}
-use Rattle.esr_opening.specs.Looked.{Refuses, Answers, Blames, Says}
+use Rattle.esr_opening.specs.Looked.{Refuses, Answers, Blames}
 use Rattle.esr_opening.specs.Part.{part}
 use Rattle.esr_opening.specs.declared.refusal.OpenRefusal.{OpenRefusal}
 use Rattle.esr_opening.specs.declared.refusal.OpenRefusal.TheVariants as refusals
@@ -22,16 +19,6 @@ pub fault_before : {F : Type 0} (faults : F → ℕ) (x y z : ℕ) (fetch : Opti
 fault_before faults x y z fetch le (inl cause) = inl (cause_before x y z le cause)
 fault_before faults x y z fetch le (inr read) = inr read
 
--- the error of a call
-pub call_refuses : {F B : Type 0} (faults : F → ℕ) (held : Option Held) (x y : ℕ) (finds : Held → Result B Obstacle) (e : CallError) (r : OpenRefusal F) → r ≡ call_refusal e → (e ≡ Failed → HasCause x y true)
-    → Refuses faults held x y finds r
-call_refuses faults held x y finds Memory r is cause = subst (λ s. Refuses faults held x y finds s) (sym is) tt
-call_refuses faults held x y finds Failed r is cause = subst (λ s. Refuses faults held x y finds s) (sym is) (inl (cause refl))
-
--- want of memory
-pub wanting_refuses : {F B : Type 0} (faults : F → ℕ) (held : Option Held) (x y : ℕ) (finds : Held → Result B Obstacle) (r : OpenRefusal F) → r ≡ refusals.Memory → Refuses faults held x y finds r
-wanting_refuses faults held x y finds r is = subst (λ s. Refuses faults held x y finds s) (sym is) tt
-
 -- ---- what is found
 
 -- a step that began after others, seen from before them
@@ -39,21 +26,14 @@ pub refuses_before : {F B : Type 0} (faults : F → ℕ) (a b : Option Held) (x 
     → ((i : Held) → a ≡ Some i → whole i ≡ finds i) → Refuses faults b y z finds e → Refuses faults a x z whole e
 refuses_before faults a b x y z finds whole refusals.Memory same le agree h = tt
 refuses_before faults a b x y z finds whole (refusals.DepotFault fetch) same le agree h = fault_before faults x y z fetch le h
-refuses_before faults a b x y z finds whole (refusals.Damaged name why) same le agree h = λ i is. agree i is ∙ h i (same ∙ is)
-refuses_before faults a b x y z finds whole (refusals.TermsSpent term) same le agree h = λ i is. agree i is ∙ h i (same ∙ is)
-
-pub answers_before : {F B : Type 0} (faults : F → ℕ) (a b : Option Held) (x y z : ℕ) (finds whole : Held → Result B Obstacle) (r : Result B (OpenRefusal F)) → b ≡ a → x ≤ y
-    → ((i : Held) → a ≡ Some i → whole i ≡ finds i) → Answers faults b y z finds r → Answers faults a x z whole r
-answers_before faults a b x y z finds whole (Ok v) same le agree h = λ i is. agree i is ∙ h i (same ∙ is)
-answers_before faults a b x y z finds whole (Err e) same le agree h = refuses_before faults a b x y z finds whole e same le agree h
+refuses_before faults a b x y z finds whole e same le agree h = λ i is. agree i is ∙ h i (same ∙ is)
 
 -- a step that refused ends the whole
 pub refused_first : {F A B : Type 0} (faults : F → ℕ) (held : Option Held) (x y : ℕ) (first : Held → Result A Obstacle) (whole : Held → Result B Obstacle) (e : OpenRefusal F)
     → ((i : Held) (o : Obstacle) → held ≡ Some i → first i ≡ Err o → whole i ≡ Err o) → Refuses faults held x y first e → Refuses faults held x y whole e
 refused_first faults held x y first whole refusals.Memory ends h = tt
 refused_first faults held x y first whole (refusals.DepotFault fetch) ends h = h
-refused_first faults held x y first whole (refusals.Damaged name why) ends h = λ i is. ends i _ is (h i is)
-refused_first faults held x y first whole (refusals.TermsSpent term) ends h = λ i is. ends i _ is (h i is)
+refused_first faults held x y first whole e ends h = λ i is. ends i _ is (h i is)
 
 -- ---- of what was read
 
@@ -61,24 +41,7 @@ pub blames_refuses : {F A B : Type 0} (faults : F → ℕ) (held : Option Held) 
     → ((i : Held) (o : Obstacle) → held ≡ Some i → found ≡ Err o → whole i ≡ Err o) → Blames found e → Refuses faults held x y whole e
 blames_refuses faults held x y found whole refusals.Memory ends h = tt
 blames_refuses faults held x y found whole (refusals.DepotFault fetch) ends h = absurd h
-blames_refuses faults held x y found whole (refusals.Damaged name why) ends h = λ i is. ends i _ is h
-blames_refuses faults held x y found whole (refusals.TermsSpent term) ends h = λ i is. ends i _ is h
-
-pub says_answers : {F B : Type 0} (faults : F → ℕ) (held : Option Held) (x y : ℕ) (found : Result B Obstacle) (whole : Held → Result B Obstacle) (r : Result B (OpenRefusal F))
-    → ((i : Held) → held ≡ Some i → whole i ≡ found) → Says found r → Answers faults held x y whole r
-says_answers faults held x y found whole (Ok v) agree h = λ i is. agree i is ∙ h
-says_answers faults held x y found whole (Err e) agree h = blames_refuses faults held x y found whole e (λ i o is fails. agree i is ∙ fails) h
-
--- the refusal of what was read ends the whole
-pub blames_on : {F A B : Type 0} (found : Result A Obstacle) (whole : Result B Obstacle) (e : OpenRefusal F) → ((o : Obstacle) → found ≡ Err o → whole ≡ Err o) → Blames found e → Blames whole e
-blames_on found whole refusals.Memory ends h = tt
-blames_on found whole (refusals.DepotFault fetch) ends h = absurd h
-blames_on found whole (refusals.Damaged name why) ends h = ends _ h
-blames_on found whole (refusals.TermsSpent term) ends h = ends _ h
-
-pub says_as : {F B : Type 0} (found whole : Result B Obstacle) (r : Result B (OpenRefusal F)) → whole ≡ found → Says found r → Says whole r
-says_as found whole (Ok v) agree h = agree ∙ h
-says_as found whole (Err e) agree h = blames_on found whole e (λ o fails. agree ∙ fails) h
+blames_refuses faults held x y found whole e ends h = λ i is. ends i _ is h
 
 -- ---- an error that is passed on
 

@@ -121,5 +121,4 @@ not_begun faults before mid after x y z cluster next root (refusals.DepotFault f
     left = left_by before mid after cluster next root is looked.kept left;
   }),
 )
-not_begun faults before mid after x y z cluster next root (refusals.Damaged name why) looked finds fit order is left h = absurd h
-not_begun faults before mid after x y z cluster next root (refusals.TermsSpent term) looked finds fit order is left h = absurd h
+not_begun faults before mid after x y z cluster next root e looked finds fit order is left h = absurd h

@@ -124,10 +124,8 @@ told_from n (us ∷ rest) = (n, DeletingOf us) ∷ told_from (suc n) rest
 
 kept_by : (n m : ℕ) (w : OpWork) (ops : List RecordOp) → map op_of (kept_ops n ops) ≡ told_from n (kept_deletes (map op_of ops)) → map op_of (kept_ops (suc n) ops) ≡ told_from (suc n) (kept_deletes (map op_of ops))
     → map op_of (if is_delete w then record { op = n; work = w } ∷ kept_ops (suc n) ops else kept_ops n ops) ≡ told_from n (kept_deletes ((m, work_of_code w) ∷ map op_of ops))
-kept_by n m (works.Create info) ops stays goes = stays
-kept_by n m (works.Clone info source) ops stays goes = stays
 kept_by n m (works.Delete uuids) ops stays goes = ap (λ (xs : List (ℕ × RecordWork)). (n, DeletingOf (map number_of uuids)) ∷ xs) goes
-kept_by n m works.Cleanup ops stays goes = stays
+kept_by n m w ops stays goes = stays
 
 kept_told : (n : ℕ) (ops : List RecordOp) → map op_of (kept_ops n ops) ≡ told_from n (kept_deletes (map op_of ops))
 kept_told n [] = refl

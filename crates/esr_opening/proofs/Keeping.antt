@@ -1,5 +1,5 @@
 -- The deletes among the ops of a record, numbered anew one after another.
-use Rattle.std.proofs.Common.{◌≡◌, ℕ, suc, ◌+◌, ◌<◌, ◌≤◌, ◌^◌, Bool, true, false, List, [], ◌∷◌, ◌++◌, length, get_or, drop, refl, sym, ap, ◌∙◌, subst, arith}
+use Rattle.std.proofs.Common.{◌≡◌, ℕ, suc, ◌+◌, ◌<◌, ◌≤◌, Bool, true, false, List, [], ◌∷◌, ◌++◌, length, get_or, drop, refl, sym, ap, ◌∙◌, subst, arith}
 use Rattle.std.specs.Prelude.{if◌then◌else◌}
 use Rattle.std.proofs.lemmas.List.{append-nil, append_assoc, drop_more, drop_all}
 use Rattle.esr_record.specs.declared.op.RecordOp.{RecordOp}
@@ -35,10 +35,6 @@ module _ (ops : List RecordOp) (i : ℕ) (kept : List RecordOp) (are : AreKept o
   may_keep new op_is work_is =
       let own : IsOp (last_op kept) o = above.0 in
       record { above = omega (arith, op_is); most = omega (arith, op_is, own.above, own.most); work = subst IsWork (sym work_is) own.work }
-
-  -- the number fits
-  pub next_fits : last_op kept + 1 ≤ 2 ^ 62
-  next_fits = let own : IsOp (last_op kept) o = above.0 in omega (arith, own.above, own.most)
 
   -- and gets it
   pub kept_more : (new : RecordOp) (more : List RecordOp) → is_delete o.work ≡ true → new.op ≡ last_op kept + 1 → new.work ≡ o.work → more ≡ kept ++ new ∷ [] → AreKept ops (i + 1) more

@@ -1,6 +1,5 @@
 pub mod Looking
 pub mod Answering
-pub mod Reading
 pub mod Below
 pub mod Keeping
 pub mod Fitting

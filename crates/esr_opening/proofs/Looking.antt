@@ -1,11 +1,11 @@
 -- Looks into a container, one after another.
-use Rattle.std.proofs.Common.{◌≡◌, ◌⊎◌, inl, inr, List, ℕ, ◌+◌, ◌-◌, ◌^◌, ◌≤◌, min, true, false, Option, Some, None, Result, Ok, Err, refl, sym, ap, ◌∙◌, subst, arith}
+use Rattle.std.proofs.Common.{◌≡◌, ◌⊎◌, inl, inr, List, ℕ, ◌+◌, ◌-◌, ◌^◌, ◌≤◌, min, true, false, Option, Some, None, Result, Ok, Err, refl, sym, ◌∙◌, subst, arith}
 use Rattle.esr_depot.specs.Image.{Image as Held, with_text, swap_known}
 use Rattle.esr_depot.specs.Changes.{Swapped, SwapMay}
 use Rattle.esr_depot.specs.Look.{Look, now}
 use Rattle.esr_depot.specs.declared.error.CallError.{CallError}
 use Rattle.esr_depot.specs.declared.error.CallError.TheVariants.{Memory, Failed}
-use Rattle.esr_depot.specs.Calls.{Change, SameImage, Stays, Called, HasCause, has_failed}
+use Rattle.esr_depot.specs.Calls.{Change, Called}
 use Rattle.esr_depot.specs.Moments.{LeavesOnly, started, goes_on, joined}
 use Rattle.esr_opening.specs.Opening.{IsAsBefore}
 use Rattle.esr_opening.specs.Looked.{Looked}
@@ -14,29 +14,6 @@ use Rattle.esr_opening.specs.Terms.{MayHave}
 -- since now there is no image but that of now
 abbrev pub OnlyNow : Look → Type 0
 OnlyNow l = (i : Held) → l.since l.clock i → now l ≡ Some i
-
--- no call was made
-pub looked_none : (l : Look) (faults : ℕ) → OnlyNow l → Looked l l faults faults
-looked_none l faults only = record { kept = record { same = refl; left = started l (λ i. now l ≡ Some i) only }; later = omega arith }
-
--- no time passed
-pub stays_now : (old new : Look) → Stays old new → now new ≡ now old
-stays_now old new stays = ap (λ (k : ℕ). new.at k) stays.clock ∙ stays.at old.clock
-
--- a call that leaves the image
-same_now : {T : Type 0} (old new : Look) (result : Result T CallError) → Called old new (λ _. SameImage) SameImage result → now new ≡ now old
-same_now old new (Ok x) called = called.done
-same_now old new (Err Memory) called = stays_now old new (called.stays refl)
-same_now old new (Err Failed) called = called.failed refl
-
-pub looked_call : {T : Type 0} (old new : Look) (old_faults new_faults : ℕ) (result : Result T CallError) → OnlyNow old → Called old new (λ _. SameImage) SameImage result
-    → HasCause old_faults new_faults (has_failed result) → Looked old new old_faults new_faults
-looked_call old new old_faults new_faults result only called cause =
-    let P : Held → Type 0 = λ i. now old ≡ Some i in
-    record {
-      kept = record { same = same_now old new result called; left = goes_on old old new P (λ _. SameImage) SameImage result (started old P only) called (λ i m. sym m) };
-      later = cause.later;
-    }
 
 -- it counts as one, or as none
 pub call_counts : {T : Type 0} (old new : Look) (ok : T → Change) (may : Change) (result : Result T CallError) → Called old new ok may result → new.clock ≤ old.clock + 1

@@ -8,11 +8,10 @@ use Rattle.esr_depot.specs.Listing.{page_from}
 use Rattle.esr_json.specs.declared.refusal.Reason.{Reason}
 use Rattle.esr_record.specs.Record.{Record}
 use Rattle.esr_record.specs.Reading.{record_from}
-use Rattle.esr_root.specs.Root.{Root, empty_root}
+use Rattle.esr_root.specs.Root.{Root}
 use Rattle.esr_root.specs.Reading.{root_from}
 use Rattle.esr_root.specs.declared.snaps.RootSnap.{RootSnap}
-use Rattle.esr_meta.specs.Info.{Info, info_from}
-use Rattle.esr_opening.specs.Found.{Obstacle, ◌>>=◌, readable, read_as, without_record, record_in, root_name, root_in, safe_number, info_name, agreed, info_in, infos_in, known_ids, has_term, checked, found}
+use Rattle.esr_opening.specs.Found.{Obstacle, ◌>>=◌, readable, read_as, without_record, record_in, root_name, root_in, safe_number, info_in, infos_in, known_ids, has_term, checked, found}
 use Rattle.esr_opening.specs.Terms.{safe_place, whole_root_in, own_checks}
 
 pub ok_same : {A E : Type 0} (a b : A) → ◌≡◌ {A = Result A E} (Ok a) (Ok b) → a ≡ b
@@ -38,10 +37,6 @@ record_absent i page is same = ap (record_in i.blobs) (sym is) ∙ first_page (s
 
 -- ---- the root
 
-pub root_absent : (blobs : Blobs) (safe : ℤ) → safe_place safe ≡ None → root_in blobs safe ≡ Ok empty_root
-root_absent blobs (pos n) none = absurd cc
-root_absent blobs (negsuc n) none = refl
-
 root_at : (blobs : Blobs) (safe : ℤ) (n : ℕ) → safe_place safe ≡ Some n → root_in blobs safe ≡ read_as root_from (root_name n) (fin.get blobs (root_name n))
 root_at blobs (pos m) n place = let same : m ≡ n = cc in ap (λ (k : ℕ). read_as root_from (root_name k) (fin.get blobs (root_name k))) same
 root_at blobs (negsuc m) n place = absurd cc
@@ -51,10 +46,6 @@ pub root_there : (blobs : Blobs) (safe : ℤ) (n : ℕ) (name : Bytes) (bytes : 
 root_there blobs safe n name bytes place is got = root_at blobs safe n place ∙ read_there root_from blobs (root_name n) name bytes is got
 
 -- ---- infos
-
-pub info_read : (blobs : Blobs) (root : Root) (n : ℕ) (s : RootSnap) (name : Bytes) (bytes : Option Bytes) → name ≡ info_name s → ◌≡◌ {A = Result (Option Bytes) Obstacle} (Ok (fin.get blobs name)) (Ok bytes)
-    → info_in blobs root n s ≡ (read_as info_from name bytes >>= agreed root n s)
-info_read blobs root n s name bytes is got = ap (λ (r : Result Info Obstacle). r >>= agreed root n s) (read_there info_from blobs (info_name s) name bytes is got)
 
 infos_step : (blobs : Blobs) (root : Root) (n : ℕ) (snaps : List RootSnap) (index : ℕ) (s : RootSnap) → index < length snaps → s ≡ get_or snaps index s
     → infos_in blobs root n (drop index snaps) ≡ (info_in blobs root n s >>= λ x. infos_in blobs root n (drop (index + 1) snaps))
@@ -84,10 +75,6 @@ whole_by blobs safe root n snaps there number is =
 pub whole_there : (blobs : Blobs) (safe : ℤ) (root : Root) (n : ℕ) (snaps : List RootSnap) (x : Unit {0}) → root_in blobs safe ≡ Ok root → n ≡ safe_number safe → snaps ≡ root.snapshots
     → infos_in blobs root n snaps ≡ Ok x → whole_root_in blobs safe ≡ Ok root
 whole_there blobs safe root n snaps x there number is infos = whole_by blobs safe root n snaps there number is ∙ then_ok (infos_in blobs root n snaps) (λ x. Ok root) x infos
-
-pub whole_lacks : (blobs : Blobs) (safe : ℤ) (root : Root) (n : ℕ) (snaps : List RootSnap) (o : Obstacle) → root_in blobs safe ≡ Ok root → n ≡ safe_number safe → snaps ≡ root.snapshots
-    → infos_in blobs root n snaps ≡ Err o → whole_root_in blobs safe ≡ Err o
-whole_lacks blobs safe root n snaps o there number is infos = whole_by blobs safe root n snaps there number is ∙ then_err (infos_in blobs root n snaps) (λ x. Ok root) o infos
 
 pub no_whole_root : (blobs : Blobs) (safe : ℤ) (o : Obstacle) → root_in blobs safe ≡ Err o → whole_root_in blobs safe ≡ Err o
 no_whole_root blobs safe o fails = then_err (root_in blobs safe) (λ (r : Root). infos_in blobs r (safe_number safe) r.snapshots >>= λ x. Ok r) o fails

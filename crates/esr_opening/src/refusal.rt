@@ -7,7 +7,7 @@ use esr_seq::Text;
 use std::alloc::{AllocError, AllocFailed};
 
 /// What is wrong with a blob, or with the cluster record.
-#[derive(Clone, Copy, Debug, PartialEq, Eq)]
+#[derive(Clone, Copy, Debug)]
 pub enum Why {
     /// There is no cluster record, but this blob: the first in byte order of names.
     NoRecord,

@@ -33,10 +33,8 @@ module _ (refs : List CodeRef) (places : List Bytes) where
   all_done-works (x ∷ xs) = ap (λ b. is_done (state_of x.state) && b) (all_done-works xs)
 
   done_with : (k : ℕ) (r : ShardResult) (x : OpenShard) (st : CodeState) → is_done (marked_by k (Done r) (record (work_of_shard refs places x) { state = state_of st }) (state_of st)).state ≡ is_done_with k st
-  done_with k r x states.Pending = refl
   done_with k r x (states.Out j) = elim (eqb j k) as (λ b. is_done (cond b (record (work_of_shard refs places x) { state = Done r }) (record (work_of_shard refs places x) { state = Out j })).state ≡ b) [ true ↦ refl | false ↦ refl ]
-  done_with k r x (states.Done q) = refl
-  done_with k r x states.GivenUp = refl
+  done_with k r x st = refl
 
   pub all_done-marked : (k : ℕ) (r : ShardResult) (xs : List OpenShard) → all_done (map (marked k (Done r)) (map (work_of_shard refs places) xs)) ≡ list_all (λ s. is_done_with k s.state) xs
   all_done-marked k r [] = refl
@@ -59,11 +57,9 @@ module _ (refs : List CodeRef) (places : List Bytes) where
 
   marked_work : (k : ℕ) (new : CodeState) (x : OpenShard) (st : CodeState)
       → ◌≡◌ {A = ShardWork} (record (work_of_shard refs places x) { state = state_of (marked_state k new st) }) (marked_by k (state_of new) (record (work_of_shard refs places x) { state = state_of st }) (state_of st))
-  marked_work k new x states.Pending = refl
   marked_work k new x (states.Out j) = elim (eqb j k) as (λ b. ◌≡◌ {A = ShardWork} (record (work_of_shard refs places x) { state = state_of (cond b new (states.Out j)) })
       (cond b (record (work_of_shard refs places x) { state = state_of new }) (record (work_of_shard refs places x) { state = Out j }))) [ true ↦ refl | false ↦ refl ]
-  marked_work k new x (states.Done q) = refl
-  marked_work k new x states.GivenUp = refl
+  marked_work k new x st = refl
 
   pub works-marked : (k : ℕ) (new : CodeState) (xs : List OpenShard) → map (work_of_shard refs places) (map (marked_open k new) xs) ≡ map (marked k (state_of new)) (map (work_of_shard refs places) xs)
   works-marked k new [] = refl
@@ -71,11 +67,9 @@ module _ (refs : List CodeRef) (places : List Bytes) where
 
   failed_work : (k : ℕ) (x : OpenShard) (st : CodeState)
       → ◌≡◌ {A = ShardWork} (record (work_of_shard refs places x) { state = state_of (failed_state k st) }) (fails_by k (record (work_of_shard refs places x) { state = state_of st }) (state_of st))
-  failed_work k x states.Pending = refl
   failed_work k x (states.Out j) = elim (eqb j k) as (λ b. ◌≡◌ {A = ShardWork} (record (work_of_shard refs places x) { state = state_of (cond b states.GivenUp (states.Out j)) })
       (cond b (record (work_of_shard refs places x) { state = GivenUp }) (record (work_of_shard refs places x) { state = Out j }))) [ true ↦ refl | false ↦ refl ]
-  failed_work k x (states.Done q) = refl
-  failed_work k x states.GivenUp = refl
+  failed_work k x st = refl
 
   pub works-failed : (k : ℕ) (xs : List OpenShard) → map (work_of_shard refs places) (map (failed_open k) xs) ≡ map (fails k) (map (work_of_shard refs places) xs)
   works-failed k [] = refl

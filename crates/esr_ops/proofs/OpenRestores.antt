@@ -37,11 +37,9 @@ module _ (refs : List CodeRef) (place : Bytes) where
 
   marked_read : (k : ℕ) (new : CodeState) (x : OpenShard) (st : CodeState)
       → ◌≡◌ {A = ShardWork} (record (work_of_read refs place x) { state = state_of (marked_state k new st) }) (marked_by k (state_of new) (record (work_of_read refs place x) { state = state_of st }) (state_of st))
-  marked_read k new x states.Pending = refl
   marked_read k new x (states.Out j) = elim (eqb j k) as (λ b. ◌≡◌ {A = ShardWork} (record (work_of_read refs place x) { state = state_of (cond b new (states.Out j)) })
       (cond b (record (work_of_read refs place x) { state = state_of new }) (record (work_of_read refs place x) { state = Out j }))) [ true ↦ refl | false ↦ refl ]
-  marked_read k new x (states.Done q) = refl
-  marked_read k new x states.GivenUp = refl
+  marked_read k new x st = refl
 
   pub reads-marked : (k : ℕ) (new : CodeState) (xs : List OpenShard) → map (work_of_read refs place) (map (marked_open k new) xs) ≡ map (marked k (state_of new)) (map (work_of_read refs place) xs)
   reads-marked k new [] = refl

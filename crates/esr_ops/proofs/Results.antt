@@ -26,9 +26,8 @@ module _ (refs : List CodeRef) (places : List Bytes) where
       → (all_done (map (work_of_shard refs places) xs) ≡ true → AllDone (map (work_of_shard refs places) xs) (map result_of (filter_map (λ s. result_in s.state) xs)))
       → AllDone (map (work_of_shard refs places) (x ∷ xs)) (map result_of (cons_option (result_in st) (filter_map (λ s. result_in s.state) xs)))
   one_more x xs states.Pending is e rest = absurd (true≢false (sym e))
-  one_more x xs (states.Out j) is e rest = absurd (true≢false (sym e))
   one_more x xs (states.Done r) is e rest = (ap state_of is, rest e)
-  one_more x xs states.GivenUp is e rest = absurd (true≢false (sym e))
+  one_more x xs st is e rest = absurd (true≢false (sym e))
 
   pub all_results : (xs : List OpenShard) → all_done (map (work_of_shard refs places) xs) ≡ true → AllDone (map (work_of_shard refs places) xs) (map result_of (filter_map (λ s. result_in s.state) xs))
   all_results [] e = tt

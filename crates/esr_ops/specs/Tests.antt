@@ -31,10 +31,9 @@ module _ {A : Type 0} where
 
   pub place_below : (xs : List A) (n : ℕ) (x : A) → Has (take n xs) x → (k : ℕ) × (k < n) × (slice_get xs k ≡ Some x)
   place_below [] zero x m = absurd m
-  place_below [] (suc n) x m = absurd m
-  place_below (y ∷ xs) zero x m = absurd m
   place_below (y ∷ xs) (suc n) x (inl is) = (0, omega arith, ap (λ z. Some z) is)
   place_below (y ∷ xs) (suc n) x (inr m) = let (k, lt, e) = place_below xs n x m in (suc k, omega (arith, lt), e)
+  place_below xs n x m = absurd m
 
 -- the first place at which a test passes
 pub first_place : {A : Type 0} (p : A → Bool) (xs : List A) (i : ℕ) (x : A) → position p xs ≡ Some i → slice_get xs i ≡ Some x → (p x ≡ true) × ((z : A) → Has (take i xs) z → p z ≡ false)

@@ -6,7 +6,6 @@ use esr_seq::{Seq, Text};
 use std::alloc::{AllocError, Global};
 
 /// An index that a snapshot is to hold.
-#[derive(Drop)]
 pub struct AskedIndex {
     pub name: IndexName,
     /// The count of its shards, 1 to 1,024.
@@ -15,11 +14,21 @@ pub struct AskedIndex {
     pub place: Text,
 }
 
+impl Drop for AskedIndex {
+    // Not derived: each crate above would prove a derived one again.
+    fn drop(self) {
+        let AskedIndex {
+            name: _name,
+            shards: _,
+            place: _place,
+        } = self;
+    }
+}
+
 /// The indices of a snapshot, in the order of the command.
 pub type AskedIndices = Seq<AskedIndex>;
 
 /// A command.
-#[derive(Drop)]
 pub enum Command {
     /// Makes a snapshot of these indices.
     Create {
@@ -46,8 +55,33 @@ pub enum Command {
     Cleanup,
 }
 
+impl Drop for Command {
+    // Not derived: each crate above would prove a derived one again.
+    fn drop(self) {
+        match self {
+            Command::Create {
+                name: _name,
+                indices: _indices,
+                moment: _,
+            } => {}
+            Command::Clone {
+                source: _source,
+                name: _name,
+                indices: _indices,
+                moment: _,
+            } => {}
+            Command::Delete { names: _names } => {}
+            Command::Restore {
+                name: _name,
+                place: _place,
+            } => {}
+            Command::Cleanup => {}
+        }
+    }
+}
+
 /// A command was accepted as this op, for which so many ids were drawn.
-#[derive(Clone, Copy, PartialEq, Eq)]
+#[derive(Clone, Copy)]
 pub struct Accepted {
     pub op: u64,
     pub drawn: u64,

@@ -19,12 +19,23 @@ use std::alloc::{AllocError, Global};
 use std::marker::Model;
 
 /// An open delete of the snapshots with these uuids, or a cleanup, by its number.
-#[derive(Drop)]
 pub struct OpenDelete {
     number: u64,
     uuids: Ids,
     clean: bool,
     failed: bool,
+}
+
+impl Drop for OpenDelete {
+    // Not derived: each crate above would prove a derived one again.
+    fn drop(self) {
+        let OpenDelete {
+            number: _,
+            uuids: _uuids,
+            clean: _,
+            failed: _,
+        } = self;
+    }
 }
 
 impl Model for OpenDelete {

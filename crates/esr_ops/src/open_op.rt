@@ -24,7 +24,6 @@ use std::marker::Model;
 
 /// An open snapshot: its number, what it makes, the place of each index's files, its shards in order, and the snapshot that it
 /// copies where it is a clone.
-#[derive(Drop)]
 pub struct OpenOp {
     number: u64,
     making: Making,
@@ -33,6 +32,21 @@ pub struct OpenOp {
     failed: bool,
     source: Option<Id>,
     aborted: Option<u64>,
+}
+
+impl Drop for OpenOp {
+    // Not derived: each crate above would prove a derived one again.
+    fn drop(self) {
+        let OpenOp {
+            number: _,
+            making: _making,
+            places: _places,
+            shards: _shards,
+            failed: _,
+            source: _,
+            aborted: _,
+        } = self;
+    }
 }
 
 impl Model for OpenOp {

@@ -3,7 +3,7 @@ use esr_names::Id;
 use std::alloc::{AllocError, AllocFailed};
 
 /// Why a command is not accepted: the first rule that it breaks. The list of ops is as it was.
-#[derive(Clone, Copy, PartialEq, Eq)]
+#[derive(Clone, Copy)]
 pub enum Refusal {
     Memory,
     /// This cleanup is open.

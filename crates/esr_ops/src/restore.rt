@@ -15,13 +15,25 @@ use std::marker::Model;
 
 /// An open restore: its number, its snapshot, the place of the files, the indices, and their shards in order. A shard that is
 /// over is given up, as nothing waits for it any more.
-#[derive(Drop)]
 pub struct OpenRestore {
     number: u64,
     uuid: Id,
     place: Text,
     indices: IndexRefs,
     shards: Vec<OpenShard>,
+}
+
+impl Drop for OpenRestore {
+    // Not derived: each crate above would prove a derived one again.
+    fn drop(self) {
+        let OpenRestore {
+            number: _,
+            uuid: _,
+            place: _place,
+            indices: _indices,
+            shards: _shards,
+        } = self;
+    }
 }
 
 impl Model for OpenRestore {

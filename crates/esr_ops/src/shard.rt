@@ -23,7 +23,7 @@ pub enum ShardState {
 }
 
 /// A shard of an open op: `at` is the place of its index in the op's list.
-#[derive(Clone, Copy, PartialEq, Eq)]
+#[derive(Clone, Copy)]
 pub struct OpenShard {
     pub at: usize,
     pub shard: ShardId,

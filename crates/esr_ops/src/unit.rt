@@ -93,7 +93,7 @@ impl Drop for ReadyUnit {
 }
 
 /// The kind of a ticket's unit.
-#[derive(Clone, Copy, PartialEq, Eq)]
+#[derive(Clone, Copy)]
 pub enum SeatKind {
     Shard { shard: ShardId },
     Finalize,
@@ -103,7 +103,7 @@ pub enum SeatKind {
 
 /// What is kept of a ticket while it is out: its unit, whether it is a cleanup, its op, the term in which it was given, the
 /// generation that it raised, and whether it has settled. A cleanup has the kind of a delete.
-#[derive(Clone, Copy, PartialEq, Eq)]
+#[derive(Clone, Copy)]
 pub struct Seat {
     pub kind: SeatKind,
     pub clean: bool,
@@ -114,7 +114,7 @@ pub struct Seat {
 }
 
 /// What is kept of a restore's ticket while it is out: its op and its shard. It belongs to no term.
-#[derive(Clone, Copy, PartialEq, Eq)]
+#[derive(Clone, Copy)]
 pub struct ReaderSeat {
     pub op: u64,
     pub shard: ShardId,

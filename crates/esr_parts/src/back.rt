@@ -10,7 +10,7 @@ use esr_hash::Hasher;
 use esr_source::Target;
 
 /// How much a stored file has of the bytes that it is said to have.
-#[derive(Clone, Copy, Debug, PartialEq, Eq)]
+#[derive(Clone, Copy, Debug)]
 pub enum Extent {
     /// Exactly these.
     Whole,
@@ -21,7 +21,7 @@ pub enum Extent {
 }
 
 /// What failed.
-#[derive(Clone, Copy, Debug, PartialEq, Eq)]
+#[derive(Clone, Copy, Debug)]
 pub enum BackError {
     Fetch,
     Target,

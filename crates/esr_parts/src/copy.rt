@@ -10,7 +10,7 @@ use esr_hash::Hasher;
 use esr_source::{Gate, Point, Shard};
 
 /// What failed.
-#[derive(Clone, Copy, Debug, PartialEq, Eq)]
+#[derive(Clone, Copy, Debug)]
 pub enum CopyError {
     Source,
     Stage,

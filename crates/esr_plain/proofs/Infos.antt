@@ -1,7 +1,7 @@
 -- When the info of a listed snapshot stands, and the snapshot.
 use Rattle.std.proofs.Common.{◌≡◌, ℕ, List, refl, subst}
 use Rattle.esr_model.specs.Names.{BlobName, Snap}
-use Rattle.esr_model.specs.Values.{Bytes, Has, IndexRef, RootSnap, RootIndex, RootData, SnapInfo, Kind, Formats}
+use Rattle.esr_model.specs.Values.{Bytes, Has, IndexRef, RootSnap, RootIndex, RootData, SnapInfo, Formats}
 use Rattle.esr_model.specs.Shelf.{ShelfShard, Shelved}
 use Rattle.esr_model.specs.Places.{shelf_places}
 use Rattle.esr_model.specs.Image.{AllPairs, IsOne, Reads, ShardStands, SnapStands}
@@ -14,10 +14,6 @@ IsIndexOf uuid r x = (x.name ≡ r.name) × (x.id ≡ r.id) × Has x.snapshots u
 
 abbrev pub IsRefTo : RootIndex → IndexRef → Type 0
 IsRefTo x r = (r.name ≡ x.name) × (r.id ≡ x.id)
-
--- what stands with a value that is read stands with each
-pub other_value : {V : Type 0} (has : BlobName → Bytes → Type 0) → IsOne has → (name : BlobName) (kind : Kind V) (v w : V) → Reads has name kind v → (v ≡ w → ⊥) → Reads has name kind w → ⊥
-other_value has one name kind v w reads differ other = differ (reads_one has one name kind v w reads other)
 
 module _ (f : Formats) (has : BlobName → Bytes → Type 0) (root : RootData) (snap : RootSnap) where
   pub info_agrees : (info : SnapInfo) → Reads has (Snap snap.uuid) f.info info → Agrees f has root snap info → InfoStands f has root snap info

@@ -1,6 +1,6 @@
 -- What holds of a list as far as a loop has come.
-use Rattle.std.proofs.Common.{◌≡◌, ℕ, ◌+◌, ◌<◌, ◌≤◌, Bool, true, false, List, [], ◌∷◌, ◌++◌, map, length, take, get_or, Option, Some, None, refl, sym, subst, inl, inr}
-use Rattle.esr_model.specs.Loops.{next, all, has_at, item_is, every_more}
+use Rattle.std.proofs.Common.{◌≡◌, ℕ, ◌+◌, ◌<◌, Bool, true, false, List, [], ◌∷◌, ◌++◌, map, length, take, get_or, Option, Some, None, refl, sym, subst, inl, inr}
+use Rattle.esr_model.specs.Loops.{next, has_at, item_is, every_more}
 use Rattle.esr_model.specs.Values.{Has}
 use Rattle.esr_plain.specs.Exactly.{IsExactly}
 use Rattle.esr_model.specs.Image.{AllPairs}
@@ -51,9 +51,6 @@ pairs_has R (a ∷ xs) (b ∷ ys) pairs x (inr later) = pairs_has R xs ys pairs.
 pub pairs_more : {A B C : Type 0} (R : B → C → Type 0) (f : A → B) (xs : List A) (ys : List C) (i : ℕ) (x : A) (y : C) → i < length xs → x ≡ get_or xs i x
     → AllPairs R (map f (take i xs)) ys → R (f x) y → AllPairs R (map f (take (i + 1) xs)) (ys ++ y ∷ [])
 pairs_more {A} {B} {C} R f xs ys i x y less is pairs one = subst (λ (zs : List B). AllPairs R zs (ys ++ y ∷ [])) (sym (next f xs i x less is)) (AllPairs-snoc R (map f (take i xs)) ys (f x) y pairs one)
-
-pub pairs_all : {A B C : Type 0} (R : B → C → Type 0) (f : A → B) (xs : List A) (ys : List C) (i : ℕ) → length xs ≤ i → AllPairs R (map f (take i xs)) ys → AllPairs R (map f xs) ys
-pairs_all {A} {B} {C} R f xs ys i past pairs = subst (λ (zs : List B). AllPairs R zs ys) (all f xs i past) pairs
 
 -- one that has none leaves no pairs
 pub pairs_none : {A B C : Type 0} (R : B → C → Type 0) (f : A → B) (xs : List A) (i : ℕ) (x : A) → i < length xs → x ≡ get_or xs i x → ((y : C) → R (f x) y → ⊥) → (ys : List C) → AllPairs R (map f xs) ys → ⊥

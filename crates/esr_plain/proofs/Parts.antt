@@ -29,10 +29,6 @@ length-parts_from : (index shard file first n : ℕ) → length (parts_from inde
 length-parts_from index shard file first zero = refl
 length-parts_from index shard file first (suc n) = ap suc (length-parts_from index shard file (suc first) n)
 
--- the part numbered k from the first on
-abbrev part_at : ℕ → ℕ → ℕ → ℕ → BlobName
-part_at index shard file k = Part index shard file k
-
 from_next : (index shard file first n k : ℕ) → k < n → take (suc k) (parts_from index shard file first n) ≡ take k (parts_from index shard file first n) ++ Part index shard file (first + k) ∷ []
 from_next index shard file first zero k less = absurd (omega arith)
 from_next index shard file first (suc n) zero less = let same : first ≡ first + 0 = omega arith in ap (λ (m : ℕ). Part index shard file m ∷ []) same
@@ -47,9 +43,6 @@ count_same len size some = let same : len + size - 1 ≡ len + (size - 1) = omeg
 module _ (shard : ShardId) (e : CodeEntry) (some : 1 ≤ e.part_size) where
   abbrev names : List BlobName
   names = part_names shard.index.number shard.number (entry_of e)
-
-  abbrev count : ℕ
-  count = code_part_count e.print.len e.part_size
 
   pub length-names : length (part_names shard.index.number shard.number (entry_of e)) ≡ code_part_count e.print.len e.part_size
   length-names = elim (cases_Bool (leb e.print.len e.part_size)) [

@@ -1,5 +1,5 @@
 -- Names that are joined: which they are.
-use Rattle.std.proofs.Common.{◌≡◌, ◌⊎◌, ◌↔◌, ℕ, zero, suc, ◌+◌, ◌<◌, ◌≤◌, List, [], ◌∷◌, ◌++◌, map, length, take, get_or, Option, Some, None, refl, sym, ap, ◌∙◌, subst, inl, inr, append_assoc}
+use Rattle.std.proofs.Common.{◌≡◌, ◌⊎◌, ◌↔◌, ℕ, zero, suc, ◌+◌, ◌<◌, ◌≤◌, List, [], ◌∷◌, ◌++◌, map, length, take, get_or, Option, Some, refl, sym, ap, ◌∙◌, subst, inl, inr, append_assoc}
 use Rattle.std.proofs.lemmas.List.{map-append}
 use Rattle.esr_model.specs.Lists.{Has-append, Has-left, Has-right, Has-either}
 use Rattle.esr_model.specs.Loops.{next, all, item_is}
@@ -51,9 +51,6 @@ some_push {A} P xs x old more olds mores name = (
     | inr last ↦ Has-right old more name ((mores name).1 (subst (λ (y : A). P y name) (sym last) p.2))
   ],
 )
-
-pub some_none : {A : Type 0} (P : A → BlobName → Type 0) → AreNames [] (OfSome P [])
-some_none P name = (λ has. absurd has, λ p. absurd p.1)
 
 pub some_more : {A B : Type 0} (P : B → BlobName → Type 0) (f : A → B) (xs : List A) (i : ℕ) (x : A) (old new : List CodeName) (more : List BlobName) → i < length xs → x ≡ get_or xs i x
     → map name_of new ≡ map name_of old ++ more → AreNames old (OfSome P (map f (take i xs))) → Are more (P (f x)) → AreNames new (OfSome P (map f (take (i + 1) xs)))
@@ -107,9 +104,6 @@ module _ (f : Formats) (has : BlobName → Bytes → Type 0) (snaps : List RootS
     ],
   )
 
-  pub shards_none : AreNames [] (OfShards f has snaps index [])
-  shards_none name = (λ there. absurd there, λ p. let none : ◌≡◌ {A = Option ℕ} None (Some p.1.0) = p.1.1 in absurd (cc))
-
   pub shards_more : {A : Type 0} (h : A → Option ℕ) (xs : List A) (i : ℕ) (x : A) (old new more : List CodeName) → i < length xs → x ≡ get_or xs i x → length (map h (take i xs)) ≡ i
       → new ≡ old ++ more → AreNames old (OfShards f has snaps index (map h (take i xs))) → AreNames more (OfPlace f has snaps index i (h x)) → AreNames new (OfShards f has snaps index (map h (take (i + 1) xs)))
   shards_more {A} h xs i x old new more less is len made olds mores =
@@ -125,10 +119,6 @@ module _ (f : Formats) (has : BlobName → Bytes → Type 0) (snaps : List RootS
   place_some shard g names are =
       are_as (OfShard f has snaps index shard g) (OfPlace f has snaps index shard (Some g)) (map name_of names) are (λ name p. (g, refl, p))
       (λ name p. let is : ◌≡◌ {A = Option ℕ} (Some g) (Some p.0) = p.1 in let same : p.0 ≡ g = cc in subst (λ (n : ℕ). OfShard f has snaps index shard n name) same p.2)
-
-  -- a shard that has none
-  pub place_none : (shard : ℕ) → AreNames [] (OfPlace f has snaps index shard None)
-  place_none shard name = (λ there. absurd there, λ p. let none : ◌≡◌ {A = Option ℕ} None (Some p.0) = p.1 in absurd (cc))
 
   -- a shard's index that reads
   pub shard_read : IsOne has → (shard g : ℕ) (held : ShardFiles) (names : List BlobName) → Reads has (ShardIndex index shard g) f.shard_index held
@@ -240,9 +230,6 @@ read_new xs i d old new less made are = kept_new xs i (get_or xs i d) old new le
 pub read_old : (xs : List CodeName) (i : ℕ) (d : CodeName) (old : List CodeName) → i < length xs → Has (map name_of old) (name_of (get_or xs i d)) → AreNames old (Has (map name_of (take i xs)))
     → AreNames old (Has (map name_of (take (i + 1) xs)))
 read_old xs i d old less there are = kept_old xs i (get_or xs i d) old less (item_is xs i d less) there are
-
-pub kept_all : (xs : List CodeName) (i : ℕ) (old : List CodeName) → length xs ≤ i → AreNames old (Has (map name_of (take i xs))) → AreNames old (Has (map name_of xs))
-kept_all xs i old past are = subst (λ (ns : List BlobName). AreNames old (Has ns)) (all name_of xs i past) are
 
 -- seen of an equal list
 pub has_moved : (before now : List CodeName) (x : CodeName) → before ≡ now → Has (map name_of before) (name_of x) → Has (map name_of now) (name_of x)

@@ -30,9 +30,6 @@ module _ (f : Formats) (has : BlobName → Bytes → Type 0) (index shard genera
       none files (subst (λ (s : ShardSnapshot). AllPairs (IsStored f has index shard) s.files files) same_snap h.stored)
 
 module _ (f : Formats) (has : BlobName → Bytes → Type 0) (root : RootData) (uuid : ℕ) (place : IndexRef × ℕ) where
-  pub no_generation : at_shard_of (index_at root.indices place.0.id) place.1 ≡ None → (shard : ShelfShard) → ShardStands f has root uuid place shard → ⊥
-  no_generation none shard s = let some = s.in_root in cc
-
   pub no_files : (g : ℕ) → at_shard_of (index_at root.indices place.0.id) place.1 ≡ Some g → ((files : List (Bytes × Bytes)) → HasFiles f has place.0.id place.1 g uuid files → ⊥) → (shard : ShelfShard)
       → ShardStands f has root uuid place shard → ⊥
   no_files g is none shard s =

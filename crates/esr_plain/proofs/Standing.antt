@@ -157,9 +157,8 @@ picked_by f has (suc n) some o exact = let same : suc n - 1 ≡ n = omega arith 
 -- ---- by the places of generations
 
 generation_number : (gs : List (Option Id)) (k : ℕ) → option_map number_of (generation_in gs k) ≡ at_shard (map (option_map number_of) gs) k
-generation_number [] k = refl
-generation_number (g ∷ gs) zero = refl
 generation_number (g ∷ gs) (suc k) = generation_number gs k
+generation_number gs k = refl
 
 -- the generation is found at the first index of this id
 pub generation_here : (is : List CodeIndex) (i : ℕ) (x : CodeIndex) (id k : ℕ) (g : Option Id) (all : Option ℕ) → i < length is → x ≡ get_or is i x → x.id.number ≡ id → g ≡ generation_in x.generations k

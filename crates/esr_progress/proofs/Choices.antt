@@ -7,7 +7,7 @@ use Rattle.std.proofs.lemmas.Bool.{cases_lt, lt-ltb, ltb-true, or_left, or_right
 use Rattle.std.proofs.lemmas.Option.{slice_get_read, slice_get_within, same_Some, none-some}
 use Rattle.esr_model.specs.Lists.{Has-map}
 use Rattle.esr_model.specs.Values.{Has, ShardResult}
-use Rattle.esr_core.specs.World.{Op, Deletion, ShardState, Pending, Out, Done, GivenUp, ShardWork, AllDone}
+use Rattle.esr_core.specs.World.{Op, Deletion, ShardState, Pending, Done, GivenUp, ShardWork, AllDone}
 use Rattle.esr_core.specs.Ready.{Goes, Stopped, Waits, Before}
 use Rattle.esr_core.specs.Steps.{all_done, is_done}
 use Rattle.esr_core.specs.Allowed.{StandsBefore}
@@ -80,9 +80,8 @@ pub goes_by : (op : Op) → has_stopped op ≡ false → Goes op
 goes_by op e = record { unfailed = (parts op.failed op.aborted e).0; unaborted = (parts op.failed op.aborted e).1 }
   where
     parts : (b : Bool) (o : Option ℕ) → (b || is_some o) ≡ false → (b ≡ false) × (o ≡ None)
-    parts true o e = absurd (true≢false e)
-    parts false (Some x) e = absurd (true≢false e)
     parts false None e = (refl, refl)
+    parts b o e = absurd (true≢false e)
 
 pub goes_on : (op : Op) → Goes op → has_stopped op ≡ false
 goes_on op g = λ i. g.unfailed i || is_some (g.unaborted i)
@@ -103,21 +102,17 @@ has_by op (inr h) = or_right op.failed (is_some op.aborted) (ap is_some h.1)
 
 pub pending_by : (st : ShardState) → is_pending st ≡ true → st ≡ Pending
 pending_by Pending e = refl
-pending_by (Out k) e = absurd (true≢false (sym e))
-pending_by (Done r) e = absurd (true≢false (sym e))
-pending_by GivenUp e = absurd (true≢false (sym e))
+pending_by st e = absurd (true≢false (sym e))
 
 waiting : (st : ShardState) → Waits st → waits st ≡ true
-waiting Pending h = refl
-waiting (Out k) h = refl
 waiting (Done r) h = absurd h
 waiting GivenUp h = absurd h
+waiting st h = refl
 
 waits_by : (st : ShardState) → waits st ≡ true → Waits st
-waits_by Pending e = tt
-waits_by (Out k) e = tt
 waits_by (Done r) e = true≢false (sym e)
 waits_by GivenUp e = true≢false (sym e)
+waits_by st e = tt
 
 -- none of a lower number waits on the shard
 abbrev pub NoneWaits : {A : Type 0} → (A → List ShardWork) → List (ℕ × A) → ℕ → ShardWork → Type 0

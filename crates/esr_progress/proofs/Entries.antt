@@ -31,8 +31,7 @@ module _ {A : Type 0} where
 
   swaps : (a b : Bool) (v w z : Option A) → (a ≡ true → b ≡ true → ⊥) → cond a v (cond b w z) ≡ cond b w (cond a v z)
   swaps true true v w z apart = absurd (apart refl refl)
-  swaps true false v w z apart = refl
-  swaps false b v w z apart = refl
+  swaps a b v w z apart = refl
 
   pub first_at : (es : List (ℕ × A)) (k i : ℕ) (d : ℕ × A) → i < length es → (get_or es i d).0 ≡ k → ((j : ℕ) → j < i → (get_or es j d).0 ≢ k) → FirstAt es k i
   first_at [] k i d lt key before = absurd (omega arith)

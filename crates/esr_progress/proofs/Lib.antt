@@ -11,6 +11,7 @@ pub mod Recorded
 pub mod Takes
 pub mod Choices
 pub mod NextUnits
+pub mod Bases
 pub mod Unread
 pub mod Lowest
 pub mod Cleanups

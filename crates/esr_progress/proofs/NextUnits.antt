@@ -11,7 +11,7 @@ use Rattle.esr_names.specs.declared.blob.ShardId.{ShardId}
 use Rattle.esr_model.specs.Values.{Bytes, Has, RootData, ShardResult, Formats}
 use Rattle.esr_core.specs.Entry.{GivenShard, GivenClone}
 use Rattle.esr_model.specs.Image.{Generation}
-use Rattle.esr_core.specs.World.{World, Op, Deletion, ShardState, Pending, Out, Done, GivenUp, ShardWork, ReadState, Unread, BeingRead, Restored, NotRestored, RestoreShard, Restoring, Ticket, Work, Shard, Finalize, Deleting, Drop, AllDone}
+use Rattle.esr_core.specs.World.{World, Op, Deletion, ShardState, Done, ShardWork, ReadState, Restored, NotRestored, RestoreShard, Restoring, Ticket, Work, Shard, Finalize, Deleting, Drop, AllDone}
 use Rattle.esr_core.specs.Ready.{Barrier, Waits, Before, IsMaster, IsShard, SwapIsOut, UnitIsOut, ReadyShard, ReadyFinalize, ReadyDrop}
 use Rattle.esr_core.specs.Restores.{waits}
 use Rattle.esr_core.specs.Steps.{all_done, is_done, given, Largest, final_ticket, shard_ticket, plain_ticket}
@@ -56,26 +56,22 @@ use Rattle.esr_progress.proofs.Takes.{set_same}
 shard_kind : (work : Work) → IsShard work → is_of_shard (kind_of work) ≡ true
 shard_kind (Shard index number) h = refl
 shard_kind (Finalize info results made) h = absurd h
-shard_kind (Deleting uuids plan) h = absurd h
-shard_kind Drop h = absurd h
+shard_kind work h = absurd h
 
 kind_shard : (work : Work) → is_of_shard (kind_of work) ≡ true → IsShard work
 kind_shard (Shard index number) e = tt
 kind_shard (Finalize info results made) e = true≢false (sym e)
-kind_shard (Deleting uuids plan) e = true≢false (sym e)
-kind_shard Drop e = true≢false (sym e)
+kind_shard work e = true≢false (sym e)
 
 master_kind : (work : Work) → IsMaster work → is_master (kind_of work) ≡ true
-master_kind (Shard index number) h = absurd h
 master_kind (Finalize info results made) h = refl
 master_kind (Deleting uuids plan) h = refl
-master_kind Drop h = absurd h
+master_kind work h = absurd h
 
 kind_master : (work : Work) → is_master (kind_of work) ≡ true → IsMaster work
-kind_master (Shard index number) e = true≢false (sym e)
 kind_master (Finalize info results made) e = tt
 kind_master (Deleting uuids plan) e = tt
-kind_master Drop e = true≢false (sym e)
+kind_master work e = true≢false (sym e)
 
 -- the results of shards that are done
 some_results : (shards : List ShardWork) → all_done shards ≡ true → (results : List ShardResult) × AllDone shards results
@@ -87,24 +83,20 @@ some_results (s ∷ shards) e =
     (r ∷ results, (is, all))
   where
     done_by : (st : ShardState) → is_done st ≡ true → (r : ShardResult) × (st ≡ Done r)
-    done_by Pending e = absurd (true≢false (sym e))
-    done_by (Out k) e = absurd (true≢false (sym e))
     done_by (Done r) e = (r, refl)
-    done_by GivenUp e = absurd (true≢false (sym e))
+    done_by st e = absurd (true≢false (sym e))
 
 -- ---- shards of restores
 
 read_waits : (state : ReadState) → Waits (read_state state) → waits state ≡ true
-read_waits Unread h = refl
-read_waits (BeingRead k) h = refl
 read_waits (Restored files bytes) h = absurd h
 read_waits (NotRestored why) h = absurd h
+read_waits state h = refl
 
 waits_read : (state : ReadState) → waits state ≡ true → Waits (read_state state)
-waits_read Unread e = tt
-waits_read (BeingRead k) e = tt
 waits_read (Restored files bytes) e = true≢false (sym e)
 waits_read (NotRestored why) e = true≢false (sym e)
+waits_read state e = tt
 
 pub if_some : {A : Type 0} (o : Option A) (P : A → Type 0) (x : A) → o ≡ Some x → IfSome o P → P x
 if_some {A} o P x e h = subst (λ (z : Option A). IfSome z P) e h
@@ -125,9 +117,7 @@ entry_at {A} ops rise at e there =
 -- the numbers stay where a shard is given
 given_numbers : (ops : List (ℕ × Op)) → Rise (numbers_of ops) → (at : ℕ) (e : ℕ × Op) → slice_get ops at ≡ Some e → (seat : SeatKind) (ticket : ℕ) → numbers_of (set ops at (given_entry seat ticket e)) ≡ numbers_of ops
 given_numbers ops rise at e there (kinds.Shard shard) ticket = numbers-set ops e.0 at (record e.1 { shards = map (given ticket shard.index.number shard.number) e.1.shards }) (entry_at ops rise at e there)
-given_numbers ops rise at e there kinds.Finalize ticket = numbers-set ops e.0 at e.1 (entry_at ops rise at e there)
-given_numbers ops rise at e there kinds.Delete ticket = numbers-set ops e.0 at e.1 (entry_at ops rise at e there)
-given_numbers ops rise at e there kinds.Drop ticket = numbers-set ops e.0 at e.1 (entry_at ops rise at e there)
+given_numbers ops rise at e there seat ticket = numbers-set ops e.0 at e.1 (entry_at ops rise at e there)
 
 pub same_numbers : (ops here : List (ℕ × Op)) → here ≡ ops → (deletes : List (ℕ × Deletion)) (completed : List ℕ) (seats : TicketMaps) (next : ℕ) (restores : List (ℕ × RestorePlan)) (now : Plan)
     → plan_with ops deletes completed seats next restores ≡ now → IsProgress ops deletes next restores
@@ -509,11 +499,7 @@ module _ (ops : List (ℕ × Op)) (deletes : List (ℕ × Deletion)) (completed 
         gives_copy shard.index.number shard.number source.number uuid.number index (option_map number_of copy.base) h.0 (sym h.2) (sym h.3) h.1 h.4 (most_at own seat base),
         takes_copy shard.index.number shard.number source.number (option_map number_of copy.base) own (sym h.2) (sym h.3) seat.0 seat.1,
       )
-      gives_shard (works.Finalize info shards) (kinds.Shard own) h seat base = absurd h
-      gives_shard works.Drop (kinds.Shard own) h seat base = absurd h
-      gives_shard (works.RestoreShard uuid shard index place) (kinds.Shard own) h seat base = absurd h
-      gives_shard (works.Delete uuids) (kinds.Shard own) h seat base = absurd h
-      gives_shard works.Cleanup (kinds.Shard own) h seat base = absurd h
+      gives_shard work kind h seat base = absurd h
 
     gives_any : (kind : Kind) → ready_of ops deletes completed seats restores term e ≡ Some kind → (work : CodeWork) (seat : SeatKind) → IsWorkFor e.1 kind work → IsSeatFor e.1 kind seat → IsBaseFor root ops seat copy.base
         → IsGivenBy e at ticket work seat copy

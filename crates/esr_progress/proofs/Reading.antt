@@ -4,7 +4,7 @@ use Rattle.std.specs.Prelude.{◌&&◌, ◌==◌, is_some}
 use Rattle.std.specs.List.{list_any}
 use Rattle.std.specs.FinMap as fin
 use Rattle.esr_model.specs.Values.{Bytes}
-use Rattle.esr_core.specs.World.{World, Out, GivenUp, ShardWork, ReadState, Unread, BeingRead, Restored, NotRestored, RestoreShard, Restoring, Reader, marked, marked_by}
+use Rattle.esr_core.specs.World.{World, Out, GivenUp, ShardWork, ReadState, BeingRead, Restored, NotRestored, RestoreShard, Restoring, Reader, marked, marked_by}
 use Rattle.esr_core.specs.Restores.{waits, any_waits, handed, ended, ended_by}
 use Rattle.esr_core.specs.Steps.{given}
 use Rattle.esr_core.specs.After.{shard_over, read_over}
@@ -25,22 +25,19 @@ module _ (place : Bytes) where
   works-handed k index number (s ∷ xs) = λ j. handed_one k s ((s.ref.id == index) && (s.number == number)) j ∷ works-handed k index number xs j
 
   over_state : (state : ReadState) → waits state ≡ false → read_state state ≡ GivenUp
-  over_state Unread e = absurd (true≢false e)
-  over_state (BeingRead k) e = absurd (true≢false e)
   over_state (Restored files bytes) e = refl
   over_state (NotRestored why) e = refl
+  over_state state e = absurd (true≢false e)
 
   module _ (k : ℕ) (new : ReadState) (over : waits new ≡ false) where
     ended_one : (s : RestoreShard) (state : ReadState)
         → ◌≡◌ {A = ShardWork} (read_work place (ended_by k new (record s { state = state }) state)) (marked_by k GivenUp (record (read_work place s) { state = read_state state }) (read_state state))
-    ended_one s Unread = refl
-    ended_one s (Restored files bytes) = refl
-    ended_one s (NotRestored why) = refl
     ended_one s (BeingRead j) = go (eqb j k)
       where
         go : (b : Bool) → ◌≡◌ {A = ShardWork} (read_work place (cond b (record s { state = new }) (record s { state = BeingRead j }))) (cond b (record (read_work place s) { state = GivenUp }) (record (read_work place s) { state = Out j }))
         go true = λ i. record (read_work place s) { state = over_state new over i }
         go false = refl
+    ended_one s state = refl
 
     pub works-ended : (xs : List RestoreShard) → map (read_work place) (map (ended k new) xs) ≡ map (marked k GivenUp) (map (read_work place) xs)
     works-ended [] = refl

@@ -3,7 +3,7 @@ use Rattle.std.proofs.Common.{◌≡◌, ℕ, suc, ◌+◌, ◌<◌, ◌≤◌, 
 use Rattle.std.specs.FinMap as fin
 use Rattle.std.proofs.lemmas.List.{append-nil, append_assoc, drop_all}
 use Rattle.std.proofs.lemmas.Option.{slice_get-get_or}
-use Rattle.esr_model.specs.Values.{Has, RecordWork, Creating, Cloning, DeletingOf, Cleaning}
+use Rattle.esr_model.specs.Values.{Has, RecordWork, DeletingOf}
 use Rattle.esr_record.specs.declared.op.RecordOp.{RecordOp}
 use Rattle.esr_record.specs.declared.op.OpWork.{OpWork}
 use Rattle.esr_record.specs.declared.op.OpWork.TheVariants as works
@@ -73,10 +73,8 @@ module _ (kept : List (List ℕ)) (deletes : List (ℕ × Deletion)) (next : ℕ
 
 -- an op that is no delete
 pub none_kept : (deletes : List (ℕ × Deletion)) (work : OpWork) → ((uuids : _) → work ≡ works.Delete uuids → ⊥) → deletes ≡ with_kept deletes (work_of_code work)
-none_kept deletes (works.Create info) other = refl
-none_kept deletes (works.Clone info source) other = refl
 none_kept deletes (works.Delete uuids) other = absurd (other uuids refl)
-none_kept deletes works.Cleanup other = refl
+none_kept deletes work other = refl
 
 works_of : (last : ℕ) (ops : List RecordOp) → AreOps last ops → (x : RecordOp) → Has ops x → IsWork x.work
 works_of last [] are x m = absurd m
@@ -95,9 +93,7 @@ next_kept deletes op (DeletingOf uuids) rest =
     let one : List (ℕ × Deletion) = (suc (length deletes), kept_delete uuids) ∷ [] in
     let long : length (deletes ++ one) ≡ suc (length deletes) = omega (arith, length-append deletes one) in
     ap (λ (n : ℕ). (deletes ++ one) ++ kept_from (suc n) (kept_deletes rest)) long ∙ append_assoc deletes one (kept_from (suc (suc (length deletes))) (kept_deletes rest))
-next_kept deletes op (Creating name uuid moment indices) rest = refl
-next_kept deletes op (Cloning name uuid moment indices source) rest = refl
-next_kept deletes op Cleaning rest = refl
+next_kept deletes op work rest = refl
 
 module _ (ops : List RecordOp) (i : ℕ) (deletes : List (ℕ × Deletion)) (x : RecordOp) (lt : i < length ops) (is : x ≡ get_or ops i x) where
   pub work_here : AreOps 0 ops → IsWork x.work

@@ -5,7 +5,7 @@ use Rattle.std.specs.FinMap as fin
 use Rattle.std.proofs.lemmas.Option.{same_Some}
 use Rattle.esr_model.specs.Names.{BlobName}
 use Rattle.esr_model.specs.Values.{RootData, ShardResult, Formats}
-use Rattle.esr_core.specs.World.{World, Op, Deletion, Ticket, Swap, swap, Work, Shard, Finalize, Deleting, Drop}
+use Rattle.esr_core.specs.World.{World, Op, Deletion, Ticket, Swap, swap, Work, Shard, Finalize}
 use Rattle.esr_core.specs.Steps.{completing}
 use Rattle.esr_core.specs.Pruning.{dooms}
 use Rattle.esr_core.specs.After.{with_given, change, raised, settled_by, settled_of, done_of, failed_of, is_stale, dropped_of, delete_failed_by, delete_failed, deletes_left, delete_settled_by, delete_settled}
@@ -110,8 +110,7 @@ module _ (w : World) (p : Plan) (is : IsPlanOf w p) (k : ℕ) where
     stale_by : (t : Ticket) (x : Work) → is_stale w t x ≡ (not (is_of_shard (kind_of x)) && not (t.term == w.term))
     stale_by t (Shard index number) = refl
     stale_by t (Finalize info results made) = not_is (t.term == w.term)
-    stale_by t (Deleting uuids plan) = not_is (t.term == w.term)
-    stale_by t Drop = not_is (t.term == w.term)
+    stale_by t x = not_is (t.term == w.term)
 
     failed_there : (term : ℕ) → w.term ≡ term → IsPlanOf (failed_of w k (fin.get w.tickets k)) (failed_in term p k (fin.get p.seats k))
     failed_there term e = of_seat w p is k (λ o s. IsPlanOf (failed_of w k o) (failed_in term p k s)) (λ t out at.

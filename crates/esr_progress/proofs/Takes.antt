@@ -80,9 +80,8 @@ module _ (ops kept_ops : List (ℕ × Op)) (deletes kept : List (ℕ × Deletion
 -- ---- the root's generation
 
 pub at_shard-in : (gs : List (Option Id)) (k : ℕ) → at_shard (map (option_map number_of) gs) k ≡ option_map number_of (slice_index_or gs k None)
-at_shard-in [] k = refl
-at_shard-in (g ∷ gs) zero = refl
 at_shard-in (g ∷ gs) (suc k) = at_shard-in gs k
+at_shard-in gs k = refl
 
 module _ (indices : List CodeIndex) (i : ℕ) (x : CodeIndex) (lt : i < length indices) (is : x ≡ get_or indices i x) (id : ℕ) where
   step : (b : Bool) → eqb x.id.number id ≡ b → index_at (map root_index_of (drop i indices)) id ≡ cond b (Some (root_index_of x)) (index_at (map root_index_of (drop (i + 1) indices)) id)
@@ -136,9 +135,7 @@ given_shard ops copied new at kind shard ticket x y lt same is there now put =
 
 kept_entry : (kind : SeatKind) (ticket : ℕ) (e : ℕ × Op) → ((shard : ShardId) → kind ≡ kinds.Shard shard → ⊥) → given_entry kind ticket e ≡ e
 kept_entry (kinds.Shard shard) ticket e other = absurd (other shard refl)
-kept_entry kinds.Finalize ticket e other = refl
-kept_entry kinds.Delete ticket e other = refl
-kept_entry kinds.Drop ticket e other = refl
+kept_entry kind ticket e other = refl
 
 pub set_same : {A : Type 0} (xs : List A) (at : ℕ) (x : A) → slice_get xs at ≡ Some x → set xs at x ≡ xs
 set_same [] at x e = refl

@@ -10,7 +10,7 @@ use Rattle.esr_model.specs.Lists.{Has-map}
 use Rattle.esr_names.specs.declared.blob.ShardId.{ShardId}
 use Rattle.esr_model.specs.Values.{Has, RootData, Formats}
 use Rattle.esr_core.specs.Entry.{GivenRestore}
-use Rattle.esr_core.specs.World.{World, Op, Deletion, ShardWork, ReadState, Unread, BeingRead, Restored, NotRestored, RestoreShard, Restoring}
+use Rattle.esr_core.specs.World.{World, Op, Deletion, ShardWork, ReadState, Unread, RestoreShard, Restoring}
 use Rattle.esr_core.specs.Ready.{ReadyRestore}
 use Rattle.esr_core.specs.Restores.{restore_shard, handed, reader_of, shard_handed}
 use Rattle.esr_core.specs.Steps.{given}
@@ -73,9 +73,7 @@ module _ (restores here : List (ℕ × RestorePlan)) (same : here ≡ restores) 
 
 unread_by : (state : ReadState) → is_pending (read_state state) ≡ true → state ≡ Unread
 unread_by Unread e = refl
-unread_by (BeingRead k) e = absurd (true≢false (sym e))
-unread_by (Restored files bytes) e = absurd (true≢false (sym e))
-unread_by (NotRestored why) e = absurd (true≢false (sym e))
+unread_by state e = absurd (true≢false (sym e))
 
 restore_found : (index number : ℕ) (xs : List RestoreShard) (i : ℕ) (s : RestoreShard) → slice_get xs i ≡ Some s → s.ref.id ≡ index → s.number ≡ number
     → ((z : RestoreShard) → Has (take i xs) z → z.ref.id ≡ index → z.number ≡ number → ⊥) → restore_shard xs index number ≡ Some s

@@ -124,10 +124,10 @@ IsSeatFor op ready.Drop kind = kind ≡ kinds.Drop
 abbrev pub IsLiveIn : RootData → List (ℕ × Op) → ℕ → ℕ → ℕ → Type 0
 IsLiveIn root ops index number g = Generation root index number g ⊎ Among ops (λ (e : ℕ × Op). Among e.1.shards (IsDoneAt index number)) g
 
--- the largest live generation of the shard that is given
+-- the largest live generation of the shard that is given; a unit of none has no base
 abbrev pub IsBaseFor : RootData → List (ℕ × Op) → SeatKind → Option Id → Type 0
 IsBaseFor root ops (kinds.Shard shard) base = IsMost (IsLiveIn root ops shard.index.number shard.number) (option_map number_of base)
-IsBaseFor root ops kind base = Unit {0}
+IsBaseFor root ops kind base = base ≡ None
 
 -- the op, with the shard given to the ticket
 abbrev pub given_entry : SeatKind → ℕ → ℕ × Op → ℕ × Op

@@ -34,9 +34,7 @@ state_from (inr (inr r)) = Done r
 
 pub state_back : (s : ShardState) → state_from (state_parts s) ≡ s
 state_back Pending = refl
-state_back GivenUp = refl
-state_back (Out k) = refl
-state_back (Done r) = refl
+state_back s = refl
 
 abbrev pub state_code : Coded ShardState
 state_code = code_by (Bool ⊎ (ℕ ⊎ ShardResult)) (coded⊎ coded_bool (coded⊎ coded_ℕ result_code)) state_parts state_from state_back
@@ -70,9 +68,7 @@ kind_from (inr (inr b)) = OfDrop
 
 pub kind_back : (k : UnitKind) → kind_from (kind_parts k) ≡ k
 kind_back (OfShard index number) = refl
-kind_back OfFinalize = refl
-kind_back OfDelete = refl
-kind_back OfDrop = refl
+kind_back k = refl
 
 abbrev pub kind_code : Coded UnitKind
 kind_code = code_by ((ℕ × ℕ) ⊎ (Bool ⊎ Bool)) (coded⊎ (coded× coded_ℕ coded_ℕ) (coded⊎ coded_bool coded_bool)) kind_parts kind_from kind_back

@@ -4,6 +4,7 @@ pub mod Infos
 pub mod Kept
 pub mod Changes
 pub mod Choice
+pub mod Based
 pub mod Plans
 pub mod TicketMaps
 pub mod Lookups

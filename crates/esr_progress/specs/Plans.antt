@@ -3,7 +3,7 @@ use Rattle.std.proofs.Common.{◌≡◌, ℕ, ◌+◌, ◌-◌, Bool, true, fals
 use Rattle.std.specs.Prelude.{is_some}
 use Rattle.std.specs.Cmp.{nat_cmp_total}
 use Rattle.std.specs.FinMap as fin
-use Rattle.esr_core.specs.World.{World, Restoring, Reader, Ticket, ReadState, Unread, BeingRead, Restored, NotRestored, RestoreShard}
+use Rattle.esr_core.specs.World.{World, Restoring, Reader, Ticket, ReadState, Unread, RestoreShard}
 use Rattle.esr_ops.specs.Plan.{Plan, Seat, seat_of, seat_out, reader_seat, reader_out, RestorePlan, restore_plan, IsPlanOf, read_state, read_work}
 use Rattle.std.specs.List.{list_any}
 use Rattle.std.proofs.lemmas.Option.{same_Some, none-some}
@@ -76,9 +76,7 @@ module _ (w : World) (p : Plan) (is : IsPlanOf w p) where
 module _ (place : Bytes) where
   waits_one : (state : ReadState) → waits state ≡ shards.waits (read_state state)
   waits_one Unread = refl
-  waits_one (BeingRead k) = refl
-  waits_one (Restored files bytes) = refl
-  waits_one (NotRestored why) = refl
+  waits_one state = refl
 
   pub any_waits-works : (xs : List RestoreShard) → any_waits xs ≡ list_any is_waiting (map (read_work place) xs)
   any_waits-works [] = refl

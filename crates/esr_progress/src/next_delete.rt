@@ -1,11 +1,12 @@
 //! Which unit of a delete or cleanup is ready.
-ghost use Rattle.std.specs.Prelude.{◌≡◌, ◌<◌, ◌^◌, nat_lt, position, IfOk};
+ghost use Rattle.std.specs.Prelude.{◌≡◌, ◌<◌, ◌^◌, nat_lt, position, IfOk, IfSome};
 ghost use Rattle.std.specs.List.{list_any};
 ghost use Rattle.esr_core.specs.World.{World};
 ghost use Rattle.esr_formats.specs.Roots.{root_of};
 ghost use Rattle.esr_formats.specs.Clusters.{count_of};
 ghost use Rattle.esr_ops.specs.Plan.{IsGivenIn, IsPlanOf};
 ghost use Rattle.esr_ops.specs.Units.{HasDeleteReady, IsLowest, LowestUnit};
+ghost use Rattle.esr_progress.specs.Based.{IsBased};
 ghost use Rattle.esr_progress.specs.Choice.{barred, delete_ready};
 
 use crate::Progress;
@@ -36,7 +37,8 @@ impl Progress {
         term: u64,
     ) -> Result<Option<(Progress, ReadyUnit)>, AllocError>
         requires room { self.now.next_ticket < 2 ^ 62 }
-        ensures { IfOk result (λ o. (w : World) → IsGivenIn self.now (root_of root.now) (count_of safe) term w → LowestUnit (HasDeleteReady w) w o) }
+        ensures unit { IfOk result (λ o. (w : World) → IsGivenIn self.now (root_of root.now) (count_of safe) term w → LowestUnit (HasDeleteReady w) w o) }
+        ensures base { IfOk result (λ o. IfSome o (λ next. IsBased next.1)) }
     {
         let Some(at) = find_delete(&self.ops, &self.deletes, &self.tickets, term) else {
             return Ok(None);

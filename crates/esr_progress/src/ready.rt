@@ -11,6 +11,7 @@ ghost use Rattle.esr_ops.specs.Plan.{IsGivenIn, IsPlanOf, seat_of_code, reader_o
 ghost use Rattle.esr_ops.specs.Inside.{numbers_of};
 ghost use Rattle.esr_ops.specs.Ops.{IsMost, Among, IsDoneAt};
 ghost use Rattle.esr_ops.specs.Units.{NextUnit, HasSnapReady, HasUnread, IsLowest, LowestUnit};
+ghost use Rattle.esr_progress.specs.Based.{IsBased};
 ghost use Rattle.esr_progress.specs.Choice.{is_going, goes_in, is_earliest, ready_of, IsFirstReady, IsPossible, IsWorkFor, IsSeatFor, IsBaseFor, given_entry, IsFirstUnread, given_restore, is_before, lower_of};
 
 use crate::Progress;
@@ -33,7 +34,8 @@ enum Kind {
 }
 
 impl Progress {
-    /// The first ready unit of the lowest op, with the list in which its ticket is out; `None` exactly where no unit is ready.
+    /// The first ready unit of the lowest op, with the list in which its ticket is out; `None` exactly where no unit is ready. Only
+    /// the unit of a shard has a base, or that of a clone's.
     pub fn next_unit(
         &self,
         alloc: Global,
@@ -42,7 +44,8 @@ impl Progress {
         term: u64,
     ) -> Result<Option<(Progress, ReadyUnit)>, AllocError>
         requires { self.now.next_ticket < 2 ^ 62 }
-        ensures { IfOk result (λ o. (w : World) → IsGivenIn self.now (root_of root.now) (count_of safe) term w → NextUnit w o) }
+        ensures unit { IfOk result (λ o. (w : World) → IsGivenIn self.now (root_of root.now) (count_of safe) term w → NextUnit w o) }
+        ensures base { IfOk result (λ o. IfSome o (λ next. IsBased next.1)) }
     {
         let op = self.ready_op(term);
         let delete = self.ready_delete(term);
@@ -90,7 +93,8 @@ impl Progress {
         safe: i64,
     ) -> Result<Option<(Progress, ReadyUnit)>, AllocError>
         requires room { self.now.next_ticket < 2 ^ 62 }
-        ensures { IfOk result (λ o. (w : World) (term : ℕ) → IsGivenIn self.now (root_of root.now) (count_of safe) term w → LowestUnit (HasUnread w) w o) }
+        ensures unit { IfOk result (λ o. (w : World) (term : ℕ) → IsGivenIn self.now (root_of root.now) (count_of safe) term w → LowestUnit (HasUnread w) w o) }
+        ensures base { IfOk result (λ o. IfSome o (λ next. IsBased next.1)) }
     {
         let Some((at, i)) = find_unread(&self.restores) else {
             return Ok(None);
@@ -145,7 +149,8 @@ impl Progress {
         term: u64,
     ) -> Result<Option<(Progress, ReadyUnit)>, AllocError>
         requires room { self.now.next_ticket < 2 ^ 62 }
-        ensures { IfOk result (λ o. (w : World) → IsGivenIn self.now (root_of root.now) (count_of safe) term w → LowestUnit (HasSnapReady w) w o) }
+        ensures unit { IfOk result (λ o. (w : World) → IsGivenIn self.now (root_of root.now) (count_of safe) term w → LowestUnit (HasSnapReady w) w o) }
+        ensures base { IfOk result (λ o. IfSome o (λ next. IsBased next.1)) }
     {
         let Some((at, kind)) = find_ready(
             &self.ops,

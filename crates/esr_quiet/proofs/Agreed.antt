@@ -90,11 +90,9 @@ module _ (f : Formats) (has : BlobName → Bytes → Type 0) (one : IsOne has) (
 
   what_is : (name : BlobName) → Reached f has a.root name → In name
   what_is name (ReachSnap s m) = (s, m, refl)
-  what_is name (ReachMeta s m) = tt
-  what_is name (ReachIndexMeta x u m of) = tt
   what_is name (ReachIndex i k g gen) = gen
-  what_is name (ReachShardSnap i k g s held l gen reads lm sm e) = tt
   what_is name (ReachPart i k g held e piece gen reads em part) = elim (in_parts i k e piece part) [ inl is ↦ subst In (sym is) tt | inr is ↦ subst In (sym is.1) tt ]
+  what_is name other = tt
 
   root_in : (m : ℕ) → IsIn (Root m) → m ≡ n
   root_in m (inl is) = one_root is

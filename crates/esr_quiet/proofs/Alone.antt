@@ -9,7 +9,7 @@ use Rattle.esr_core.specs.Restores.{restore_shard}
 use Rattle.esr_core.specs.Steps.{shard_ticket, final_ticket, plain_ticket}
 use Rattle.esr_core.specs.Entry.{Given, GivenShard, GivenFinalize, GivenDrop, GivenRestore, GivenClone, GivenDelete, GivenCleanup, Read, ReadBlob, CheckedAll, DrawTest, CommitTest, RemoveTests, VerifiedAll, ReadFails, Step, AskStep, TakeStep, LookStep, ReadStep, DepotFault, Reply, Gave, WasDone, WasFetched, WasRemoved, HasEnded, Refused, Moment}
 use Rattle.esr_core.specs.After.{shard_of, taken_by, taken_shard, taken_restore, taken_restore_shard, told_blob, is_heard, caller_told, caller_wrote, caller_ended, caller_read, caller_by, caller_after, answered}
-use Rattle.esr_core.specs.Changes.{StepChange, NoChange, NewOp, NewDeletion, MergedDeletion, NewRestore, NewTicket, NewReader, OwnTicket, Settlement, UnitEnd, DeletionFailure, OpDrop, Election, ReaderFetch, ReaderEnd, PlainDraw, TestBlob, SwapFault}
+use Rattle.esr_core.specs.Changes.{StepChange, NewTicket, OwnTicket, Settlement, UnitEnd, DeletionFailure, OpDrop, SwapFault}
 use Rattle.esr_core.specs.History.{world_from}
 use Rattle.esr_desk.specs.Start.{Start, formats_of, world_of, or_no_ticket}
 use Rattle.esr_quiet.specs.Smooth.{AreTestsApart}
@@ -59,24 +59,14 @@ IsTake step = ⊥
 module _ (f : Formats) (w : World) (h : NoneCleans w.tickets) where
   -- but for a take
   kept : (who : ℕ) (step : Step) (new : World) → StepChange f w who step new → (IsTake step → ⊥) → NoneCleans new.tickets
-  kept who step new NoChange no_take = h
-  kept who step new (NewOp ask op completed next_id is above) no_take = h
-  kept who step new (NewDeletion ask ops x aborts clean) no_take = h
-  kept who step new (MergedDeletion ask ops d x v aborts there clean failed) no_take = h
-  kept who step new (NewRestore ask r) no_take = h
   kept who step new (NewTicket take t is ops same) no_take = absurd (no_take (subst IsTake (sym take) tt))
-  kept who step new (NewReader take o r s there) no_take = h
   kept who step new (OwnTicket t v there unit settled next_id pending id_above above) no_take = goes_on w.tickets h who t v there unit.clean unit.out
   kept who step new (Settlement is t s n names deletes there swapped raised left) no_take = goes_on w.tickets h who t (record t { settled = true }) there refl (λ is. is)
   kept who step new (UnitEnd t op v completed there op_there same) no_take = ends w.tickets h who t
   kept who step new (DeletionFailure t x there found) no_take = ends w.tickets h who t
   kept who step new (OpDrop is t there) no_take = ends w.tickets h who t
-  kept who step new (Election is) no_take = h
-  kept who step new (ReaderFetch q name bytes there) no_take = h
-  kept who step new (ReaderEnd q r state there found) no_take = h
-  kept who step new (PlainDraw next_id pending id_above above) no_take = h
-  kept who step new (TestBlob name is) no_take = h
   kept who step new (SwapFault e up change) no_take = kept who step up change no_take
+  kept who step new other no_take = h
 
   -- a take that gives no cleanup
   shard : (o : ℕ) (op : Op) (base : Option ℕ) (s : Option ShardWork) → NoneCleans (taken_shard w o op base s).tickets
@@ -93,20 +83,17 @@ module _ (f : Formats) (w : World) (h : NoneCleans w.tickets) where
 
   taken : (o : ℕ) (unit : Given) (op : Option Op) → unit ≢ GivenCleanup → NoneCleans (taken_by f w o unit op).tickets
   taken o (GivenShard index number base) (Some op) other = shard o op base (shard_of op.shards index number)
-  taken o (GivenShard index number base) None other = h
   taken o (GivenClone index number source base) (Some op) other = shard o op base (shard_of op.shards index number)
-  taken o (GivenClone index number source base) None other = h
   taken o (GivenFinalize info results) (Some op) other = comes w.tickets h w.next_ticket (final_ticket f w o op results) refl
-  taken o (GivenFinalize info results) None other = h
   taken o GivenDrop op other = comes w.tickets h w.next_ticket (plain_ticket w o Drop) refl
   taken o (GivenRestore index number uuid) op other = restore o index number (fin.get w.restores o)
   taken o (GivenDelete uuids) op other = comes w.tickets h w.next_ticket (plain_ticket w o (Deleting uuids None)) refl
   taken o GivenCleanup op other = absurd (other refl)
+  taken o unit op other = h
 
   take : (who : ℕ) (reply : Reply) (image : Option Image) → ((k o : ℕ) → reply ≢ Gave k o GivenCleanup) → NoneCleans (answered f w who TakeStep reply image).tickets
   take who (Gave k o unit) image other = taken o unit (fin.get w.ops o) (λ e. other k o (ap (λ (u : Given). Gave k o u) e))
   take who (Refused DepotFault) image other = h
-  take who (Refused refusal) image other = h
   take who reply image other = h
 
   by_step : OneChange → (who : ℕ) (step : Step) (reply : Reply) (image : Option Image) → ((k o : ℕ) → reply ≢ Gave k o GivenCleanup) → NoneCleans (answered f w who step reply image).tickets
@@ -133,7 +120,6 @@ anew_drawn c next false id none e = e
 
 read_drawn : (f : Formats) (c : Caller) (read : Read) (reply : Reply) (image : Option Image) (id : ℕ) → (caller_read f c read reply image).drawn ≡ Some id → (c.drawn ≡ Some id) ⊎ (read ≡ DrawTest)
 read_drawn f c (ReadBlob name) WasFetched image id e = inl (sym (told_drawn c name (told_blob f image name)) ∙ e)
-read_drawn f c (ReadBlob name) reply image id e = inl e
 read_drawn f c (CheckedAll snapshots blobs) reply image id e = inl (ended_drawn c reply id e)
 read_drawn f c DrawTest reply image id e = inr refl
 read_drawn f c (CommitTest name) WasDone image id e = inl (sym (wrote_drawn c name (told_blob f image name)) ∙ e)

@@ -11,7 +11,7 @@ use Rattle.esr_model.specs.Agreement.{RootAgrees}
 use Rattle.esr_model.specs.Reach.{Reached}
 use Rattle.esr_core.specs.World.{World, Reader, Caller, no_caller, HeldIn}
 use Rattle.esr_core.specs.Restores.{WasRead}
-use Rattle.esr_core.specs.Entry.{Reason, Why, OfDepot, OfSource, OfChange, OfAbsence, OfUnreadable, OfAhead, OfTaken, OfAbort, OfIdsSpent, OfGenerationsSpent, OfTarget, OfPrint, OfDisagreement, Read, ReadBlob, Step, LookStep, ReadStep, Reply, WasFetched, WasAbsent, DepotFault, Refused, Moment}
+use Rattle.esr_core.specs.Entry.{Reason, Why, OfDepot, OfAbsence, OfUnreadable, OfPrint, OfDisagreement, Read, ReadBlob, Step, LookStep, ReadStep, Reply, WasFetched, WasAbsent, DepotFault, Refused, Moment}
 use Rattle.esr_core.specs.After.{is_heard, told_blob, caller_told, caller_read, caller_after, answered, after}
 use Rattle.esr_core.specs.Allowed as allowed
 use Rattle.esr_core.specs.Allowed.{Fetcher, ByReader, ByCheck, ByVerify, SameBlobs, ReadAllows, ReadFound, ReadMissing, ReadFault, VerifyAllows, DrawingTest, Allows, Allowed}
@@ -359,15 +359,7 @@ module _ (s : Start) (log : List Moment) (lawful : IsLawful s log) (alive : IsAl
     undamaged e (OfUnreadable name reason) b damage h = unread name reason (read_shown b _ h)
     undamaged e (OfPrint name stated_len stated_digest found_len found_digest) b damage h = printed name stated_len stated_digest found_len found_digest (read_shown b _ h)
     undamaged e (OfDisagreement name other) b damage h = agreed name other (read_shown b _ h)
-    undamaged e OfDepot b damage h = damage
-    undamaged e OfSource b damage h = damage
-    undamaged e (OfChange first_len first_digest second_len second_digest) b damage h = damage
-    undamaged e (OfAhead name id) b damage h = damage
-    undamaged e (OfTaken name) b damage h = damage
-    undamaged e (OfAbort op) b damage h = damage
-    undamaged e (OfIdsSpent next) b damage h = damage
-    undamaged e (OfGenerationsSpent pending) b damage h = damage
-    undamaged e OfTarget b damage h = damage
+    undamaged e why b damage h = damage
 
     -- nor by a verification: none is open since the look
     unverified : {S F H T : Type 0} (e : Evidence S F H T) (why : Why) (b : By S F H T) → IsDamage why → IsVerifyShownBy e s front (caller_of s front) why b → ⊥
@@ -375,15 +367,7 @@ module _ (s : Start) (log : List Moment) (lawful : IsLawful s log) (alive : IsAl
     unverified e (OfUnreadable name reason) b damage h = uncommitted name (read_shown b _ h).0.committed
     unverified e (OfPrint name stated_len stated_digest found_len found_digest) b damage h = uncommitted name (read_shown b _ h).committed
     unverified e (OfDisagreement name other) b damage h = h
-    unverified e OfDepot b damage h = damage
-    unverified e OfSource b damage h = damage
-    unverified e (OfChange first_len first_digest second_len second_digest) b damage h = damage
-    unverified e (OfAhead name id) b damage h = damage
-    unverified e (OfTaken name) b damage h = damage
-    unverified e (OfAbort op) b damage h = damage
-    unverified e (OfIdsSpent next) b damage h = damage
-    unverified e (OfGenerationsSpent pending) b damage h = damage
-    unverified e OfTarget b damage h = damage
+    unverified e why b damage h = damage
 
 -- so none is reported
 pub none_damaged : {S F H T : Type 0} (laws : ReadCoreLaws) (s : Start) (log : List Moment) → IsLawful s log → (e : Evidence S F H T) (faults : List (Fault S F H T)) → AreCaused hands.Check e s log faults → NoCheckFindsDamage log
@@ -410,14 +394,7 @@ module _ (s : Start) (log : List Moment) (smooth : IsSmooth s log) (prefixes : P
   shows front back is since e (OfUnreadable name reason) b h = whole front back is since e (OfUnreadable name reason) b tt h
   shows front back is since e (OfPrint name stated_len stated_digest found_len found_digest) b h = whole front back is since e (OfPrint name stated_len stated_digest found_len found_digest) b tt h
   shows front back is since e (OfDisagreement name other) b h = whole front back is since e (OfDisagreement name other) b tt h
-  shows front back is since e OfSource b h = h
-  shows front back is since e (OfChange first_len first_digest second_len second_digest) b h = h
-  shows front back is since e (OfAhead name id) b h = h
-  shows front back is since e (OfTaken name) b h = h
-  shows front back is since e (OfAbort op) b h = h
-  shows front back is since e (OfIdsSpent next) b h = h
-  shows front back is since e (OfGenerationsSpent pending) b h = h
-  shows front back is since e OfTarget b h = h
+  shows front back is since e why b h = h
 
   -- so no verification fails, and no check
   pub none_ended : {S F H T : Type 0} (e : Evidence S F H T) (faults : List (Fault S F H T)) → AreCaused hands.Check e s log faults → NoneUnverified log

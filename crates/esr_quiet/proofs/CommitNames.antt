@@ -7,7 +7,7 @@ use Rattle.esr_core.specs.Laws.ShardStates.{pending_out}
 use Rattle.esr_model.specs.Names.{BlobName, Root, ShardSnap, ShardIndex}
 use Rattle.esr_model.specs.Values.{Bytes, Has, SnapInfo, Formats}
 use Rattle.esr_model.specs.Shelf.{Shelved}
-use Rattle.esr_core.specs.World.{World, Op, ShardWork, Pending, Work, Shard, Finalize, Deleting, Drop, Ticket, Swap, swap, swap_of, HeldIn}
+use Rattle.esr_core.specs.World.{World, Op, ShardWork, Pending, Work, Shard, Finalize, Deleting, Ticket, Swap, swap, swap_of, HeldIn}
 use Rattle.esr_core.specs.Generations.{ShardLaw}
 use Rattle.esr_core.specs.Steps.{IsOut, Drew, SwapCommits, ShardCommits, MayCommit}
 use Rattle.esr_core.specs.Ids.{Law}
@@ -48,12 +48,11 @@ module _ (f : Formats) (w : World) (shelf : List Shelved) (law : Law f w shelf) 
   of_plan s is (inl own) u c = by_work t.work refl
     where
       by_work : (work : Work) → t.work ≡ work → IsDrawnIndex t name
-      by_work (Shard i n) e = absurd (none-some s (sym (ap (λ x. swap_of f x t.root) e) ∙ is))
-      by_work Drop e = absurd (none-some s (sym (ap (λ x. swap_of f x t.root) e) ∙ is))
       by_work (Deleting uuids plan) e =
           let planned : plan ≡ Some s = sym (ap (λ x. swap_of f x t.root) e) ∙ is in
           drawn k t uuids s name bytes out.there (e ∙ ap (λ (p : Option Swap). Deleting uuids p) planned) own
       by_work (Finalize info results made) e = absurd (no_kind info u c (kinds f info name bytes (subst (λ (x : Swap). Has x.own (name, bytes)) (sym (of_swap f t.work t.root s is info results made e)) own)))
+      by_work work e = absurd (none-some s (sym (ap (λ x. swap_of f x t.root) e) ∙ is))
 
   -- what some shard's ticket may commit it commits as a shard's, or by its plan
   as_shard : (u : Ticket) → ShardCommits u name → IsDrawnIndex t name ⊎ ShardCommits t name

@@ -7,7 +7,7 @@ use Rattle.esr_model.specs.Values.{Bytes, Has, ShardFiles, Formats, Kind}
 use Rattle.esr_model.specs.Image.{Image}
 use Rattle.esr_core.specs.World.{World, Shard, Ticket}
 use Rattle.esr_core.specs.Steps.{IsOut, IsToFetch}
-use Rattle.esr_core.specs.Entry.{Reason, Why, OfDepot, OfSource, OfChange, OfAbsence, OfUnreadable, OfAhead, OfTaken, OfAbort, OfIdsSpent, OfGenerationsSpent, OfTarget, OfPrint, OfDisagreement, Step, FetchStep, FailedStep, Refusal, NameTaken, AbortedBy, IdsSpent, GenerationsSpent, Reply, WasAbsent, HasEnded, Refused, Moment}
+use Rattle.esr_core.specs.Entry.{Reason, Why, OfDepot, OfSource, OfChange, OfAbsence, OfUnreadable, OfAhead, OfTaken, OfAbort, OfIdsSpent, OfGenerationsSpent, Step, FetchStep, FailedStep, Refusal, NameTaken, AbortedBy, IdsSpent, GenerationsSpent, Reply, WasAbsent, HasEnded, Refused, Moment}
 use Rattle.esr_core.specs.Allowed as allowed
 use Rattle.esr_core.specs.Allowed.{Told, Fetches, Fails, Allows, Allowed}
 use Rattle.esr_formats.specs.Formats.{formats}
@@ -31,7 +31,7 @@ use Rattle.esr_quiet.proofs.Prefixes.{told_at}
 use Rattle.esr_quiet.specs.QuietWorlds.{IsSteadyAt}
 use Rattle.esr_quiet.proofs.Bases.{is_there, does_read, not_ahead}
 use Rattle.esr_quiet.proofs.Sources.{source_there, source_reads}
-use Rattle.esr_quiet.specs.RuleLaws.{never_rule}
+use Rattle.esr_core.specs.Laws.Rules.{never_rule}
 use Rattle.esr_quiet.proofs.Rules.{ruled_at}
 
 -- ---- what a step tells
@@ -50,7 +50,6 @@ tells f size w who step reply image a = tt
 -- a refusal tells nothing
 refused_tells : (f : Formats) (w : World) (who : ℕ) (step : Step) (refusal : Refusal) (image : Option Image) → Tells f w who step (Refused refusal) image
 refused_tells f w who (FetchStep name) refusal image = tt
-refused_tells f w who (FailedStep why) refusal image = tt
 refused_tells f w who step refusal image = tt
 
 told_by : (f : Formats) (size : ℕ) (w : World) (m : Moment) → w.deposed ≡ false → Allowed f size w m → Tells f w m.entry.who m.entry.step m.entry.reply m.image
@@ -82,31 +81,25 @@ index_is s = refl
 -- ---- each cause
 
 pub read_shown : {S F H T : Type 0} (b : By S F H T) (shown : Type 0) → ReadShown b shown → shown
-read_shown (by.Object object) shown h = absurd h
-read_shown by.Entry shown h = absurd h
 read_shown by.Nothing shown h = h
+read_shown b shown h = absurd h
 
 pub step_shown : {S F H T : Type 0} (b : By S F H T) (shown : Type 0) → StepShown b shown → shown
-step_shown (by.Object object) shown h = absurd h
 step_shown by.Entry shown h = h
-step_shown by.Nothing shown h = absurd h
+step_shown b shown h = absurd h
 
 -- where the container is quiet nothing of it is shown to have failed
 pub no_fetch_fault : {S F H T : Type 0} (e : Evidence S F H T) (s : Start) → s.quiet ≡ true → (fault : Type 0) (b : By S F H T) → FetchShown e s fault b → ⊥
-no_fetch_fault e s quiet fault (by.Object (objects.Stage stage)) h = h
 no_fetch_fault e s quiet fault (by.Object (objects.Fetch fetch)) h = true≢false (sym quiet ∙ h.1)
 no_fetch_fault e s quiet fault (by.Object (objects.Shard shard)) h = h
-no_fetch_fault e s quiet fault (by.Object (objects.Target target)) h = h
 no_fetch_fault e s quiet fault by.Entry h = true≢false (sym quiet ∙ h.1)
-no_fetch_fault e s quiet fault by.Nothing h = h
+no_fetch_fault e s quiet fault b h = h
 
 pub no_depot_fault : {S F H T : Type 0} (e : Evidence S F H T) (s : Start) → s.quiet ≡ true → (fault : Type 0) (b : By S F H T) → DepotShown e s fault b → ⊥
-no_depot_fault e s quiet fault (by.Object (objects.Stage stage)) h = true≢false (sym quiet ∙ h.1)
-no_depot_fault e s quiet fault (by.Object (objects.Fetch fetch)) h = true≢false (sym quiet ∙ h.1)
 no_depot_fault e s quiet fault (by.Object (objects.Shard shard)) h = h
 no_depot_fault e s quiet fault (by.Object (objects.Target target)) h = h
-no_depot_fault e s quiet fault by.Entry h = true≢false (sym quiet ∙ h.1)
 no_depot_fault e s quiet fault by.Nothing h = h
+no_depot_fault e s quiet fault b h = true≢false (sym quiet ∙ h.1)
 
 -- the ticket is of a shard that copies this
 record IsCopied (t : Ticket) (name : BlobName) : Type 0 where
@@ -121,14 +114,11 @@ module _ (s : Start) (log : List Moment) (smooth : IsSmooth s log) (prefixes : P
   -- no shard fails
   source : {S F H T : Type 0} (e : Evidence S F H T) (t : Ticket) → ((index number : ℕ) → t.work ≡ Shard index number → IsSteadyAt s t.source t.place t.name number) → (b : By S F H T) → SourceShown e s t b → ⊥
   source e t steady (by.Object (objects.Stage stage)) h = h
-  source e t steady (by.Object (objects.Fetch fetch)) h = h
   source e t steady (by.Object (objects.Shard shard)) h =
       let a : Address = (e.shard shard).address in
       let sure : s.steady t.place t.name a.number ≡ true = subst (λ (o : Option ℕ). IsSteadyAt s o t.place t.name a.number) h.1.source (steady h.1.index a.number h.1.work) in
       true≢false (sym sure ∙ (λ j. s.steady (h.1.place j) (h.1.name j) a.number) ∙ h.0.1)
-  source e t steady (by.Object (objects.Target target)) h = h
-  source e t steady by.Entry h = h
-  source e t steady by.Nothing h = h
+  source e t steady number h = h
 
   -- the sources tell all files
   untold : (t : Ticket) → IsUntold s t → ⊥
@@ -234,9 +224,7 @@ module _ (s : Start) (log : List Moment) (smooth : IsSmooth s log) (prefixes : P
   shows e front back is who out (OfAbort op) b h = unaborted front back is who op (step_shown b _ h)
   shows e front back is who out (OfIdsSpent next) b h = unspent front back is who (IdsSpent next) tt (step_shown b _ h)
   shows e front back is who out (OfGenerationsSpent pending) b h = unspent front back is who (GenerationsSpent pending) tt (step_shown b _ h)
-  shows e front back is who out OfTarget b h = h
-  shows e front back is who out (OfPrint name stated_len stated_digest found_len found_digest) b h = h
-  shows e front back is who out (OfDisagreement name other) b h = h
+  shows e front back is who out why b h = h
 
   pub none_failed : {S F H T : Type 0} (e : Evidence S F H T) (faults : List (Fault S F H T)) → AreCaused hands.Unit e s log faults → NoneFailed log
   none_failed e faults shown m why has step reply =

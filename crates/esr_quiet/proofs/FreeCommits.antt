@@ -4,7 +4,7 @@ use Rattle.std.proofs.lemmas.Option.{same_Some}
 use Rattle.esr_model.specs.Names.{BlobName, IndexMeta}
 use Rattle.esr_model.specs.Values.{Bytes, Has, IndexRef, RootData, SnapInfo, Formats}
 use Rattle.esr_model.specs.Image.{Present}
-use Rattle.esr_core.specs.World.{World, Work, Shard, Finalize, Deleting, Drop, Swap, swap_of, metadata}
+use Rattle.esr_core.specs.World.{World, Work, Finalize, Deleting, Swap, swap_of, metadata}
 use Rattle.esr_core.specs.Allowed.{Commits, IsMetadata}
 use Rattle.esr_quiet.specs.Free.{Free}
 
@@ -25,10 +25,9 @@ no_swap s e = cc
 -- what a swap writes beside its root is metadata, where it is no delete's plan
 pub own_metadata : (f : Formats) (work : Work) (root : RootData) (s : Swap) → swap_of f work root ≡ Some s → (name : BlobName) (bytes : Bytes) → Has s.own (name, bytes)
     → IsMetadata name ⊎ ((uuids : List ℕ) × (work ≡ Deleting uuids (Some s)))
-own_metadata f (Shard index number) root s e name bytes h = absurd (no_swap s e)
 own_metadata f (Finalize info results made) root s e name bytes h = inl (named_metadata f info name bytes (subst (λ (x : Swap). Has x.own (name, bytes)) (sym (same_Some _ s e)) h))
 own_metadata f (Deleting uuids plan) root s e name bytes h = inr (uuids, ap (λ (p : Option Swap). Deleting uuids p) e)
-own_metadata f Drop root s e name bytes h = absurd (no_swap s e)
+own_metadata f work root s e name bytes h = absurd (no_swap s e)
 
 module _ (f : Formats) (w : World) (free : Free f w) where
   -- a name that may be committed is free

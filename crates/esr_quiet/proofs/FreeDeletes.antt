@@ -18,15 +18,15 @@ use Rattle.esr_core.specs.Ready.{Waits}
 use Rattle.esr_core.specs.Restores.{IsTestOf}
 use Rattle.esr_core.specs.Steps.{Removes, with_ticket, settled}
 use Rattle.esr_core.specs.Pruning.{bare_shard, pruned_shards, IsPlanned, planned, dooms}
-use Rattle.esr_core.specs.Deletes.{named_uuids, waiting_delete, running_delete, aborted_ops, with_named, delete_merged, delete_by}
+use Rattle.esr_core.specs.Deletes.{named_uuids, aborted_ops, with_named, delete_merged, delete_by}
 use Rattle.esr_core.specs.Ids.{Law}
 use Rattle.esr_core.specs.Turns.{Aborts}
-use Rattle.esr_core.specs.Entry.{DeleteSnapshots, Cleanup, Prune, RemoveDoomed, AskStep, PruneStep, DepotFault, Reply, WasRemoved, Refused}
+use Rattle.esr_core.specs.Entry.{Prune, RemoveDoomed, PruneStep, DepotFault, Reply, WasRemoved, Refused}
 use Rattle.esr_core.specs.After.{with_given, change, told_blob, is_stale, deletes_left, delete_settled, delete_failed_by, delete_failed, blobs_in}
-use Rattle.esr_core.specs.Allowed.{Told, SameBlobs, MayPlan, SettlesDeletion, RemovesDoomed, DeleteAllows, GoingInto, NotNamed, CloneStands, RestoreStands, FullOfOps, DeleteFault, CleanupAllows, OpeningCleanup, OpStands, TicketStands, CleanupFault, PruneAllows, FetchingShard, ShardMissing, FetchShardFails, Planning, PlanSpent, SettlingDelete, SettleDeleteStale, SettleDeleteFails, RemovingDoomed, RemoveDoomedFails, EndingDelete, FailingDelete}
+use Rattle.esr_core.specs.Allowed.{Told, SameBlobs, MayPlan, SettlesDeletion, RemovesDoomed, PruneAllows, FetchingShard, ShardMissing, Planning, PlanSpent, SettlingDelete, SettleDeleteStale, RemovingDoomed, EndingDelete, FailingDelete}
 use Rattle.esr_core.specs.Laws.DeleteAsks.{aborts}
 use Rattle.esr_core.specs.Laws.DeleteRoots.{uuid_was, names_has, bytes_same}
-use Rattle.esr_core.specs.Laws.DoomNames.{dooms_is, IsDoomed, TheRoot, ASnap, AMeta, AnIndexMeta, AnIndex, AList, APart, doomed_is}
+use Rattle.esr_core.specs.Laws.DoomNames.{dooms_is, IsDoomed, APart, doomed_is}
 use Rattle.esr_core.specs.Laws.Moments.{moment, delete_settled_plain}
 use Rattle.esr_core.specs.Laws.PartNames.{in_parts}
 use Rattle.esr_core.specs.Laws.PruneShards.{of_indices}
@@ -43,13 +43,8 @@ use Rattle.esr_quiet.proofs.FreeTickets.{waited, kept, called, changed, ended, f
 
 -- no test blob
 doomed_no_test : (f : Formats) (safe : ℕ) (old new : RootData) (uuids : List ℕ) (read : List (BlobName × Bytes)) (id : ℕ) (name : BlobName) → IsDoomed f safe old new uuids read name → IsTestOf id name → ⊥
-doomed_no_test f safe old new uuids read id name (TheRoot n is) test = test
-doomed_no_test f safe old new uuids read id name (ASnap s m named) test = test
-doomed_no_test f safe old new uuids read id name (AMeta s m named) test = test
-doomed_no_test f safe old new uuids read id name (AnIndexMeta x u m of named) test = test
-doomed_no_test f safe old new uuids read id name (AnIndex p gone) test = test
-doomed_no_test f safe old new uuids read id name (AList p was l gone reads m named left) test = test
 doomed_no_test f safe old new uuids read id name (APart p was e part gone reads m left of) test = elim (in_parts p.index p.number e part of) [ inl is ↦ subst (IsTestOf id) is test | inr is ↦ subst (IsTestOf id) is.1 test ]
+doomed_no_test f safe old new uuids read id name other test = test
 
 -- ---- the texts of a plan
 
@@ -117,7 +112,7 @@ module _ (f : Formats) (w : World) (shelf : List Shelved) (law : Law f w shelf) 
   anew : (blobs : Blobs) → Back f blobs w.blobs → IsFree f (record w { blobs = blobs; caller = no_caller })
   anew blobs back = called f w shelf law l blobs back.were no_caller (tests_none f blobs no_caller refl refl)
 
-  goes_into : (names : List Bytes) (waiting running : Option ℕ) (blobs : Blobs) → Back f blobs w.blobs → IsFree f (record (delete_by w names waiting running) { blobs = blobs; caller = no_caller })
+  pub goes_into : (names : List Bytes) (waiting running : Option ℕ) (blobs : Blobs) → Back f blobs w.blobs → IsFree f (record (delete_by w names waiting running) { blobs = blobs; caller = no_caller })
   goes_into names (Some d) running blobs back = merged (fin.get w.deletes d)
     where
       merged : (found : Option Deletion) → IsFree f (record (delete_merged w names d found) { blobs = blobs; caller = no_caller })
@@ -127,28 +122,13 @@ module _ (f : Formats) (w : World) (shelf : List Shelved) (law : Law f w shelf) 
   goes_into names None None blobs back =
       aborted (aborted_ops w (named_uuids w names) w.next_op) w.next_op (aborts w (named_uuids w names) w.next_op) (fin.insert w.deletes w.next_op (record { uuids = named_uuids w names; clean = false; failed = false })) (suc w.next_op) blobs back
 
-  pub asks_delete : (names : List Bytes) (reply : Reply) (image : Option Image) → reply ≢ Refused DepotFault → DeleteAllows w names reply → SameBlobs w image
-      → IsFree f (heard_after f w (moment 0 (AskStep (DeleteSnapshots names)) reply image))
-  asks_delete names reply image calm (GoingInto acc) same = goes_into names (waiting_delete w) (running_delete w (named_uuids w names)) (blobs_in image w.blobs) (at_same f w image same)
-  asks_delete names reply image calm (NotNamed place clear first) same = anew (blobs_in image w.blobs) (at_same f w image same)
-  asks_delete names reply image calm (CloneStands o clear named lowest) same = anew (blobs_in image w.blobs) (at_same f w image same)
-  asks_delete names reply image calm (RestoreStands o clear named no_clone lowest) same = anew (blobs_in image w.blobs) (at_same f w image same)
-  asks_delete names reply image calm (FullOfOps may new full) same = anew (blobs_in image w.blobs) (at_same f w image same)
-  asks_delete names reply image calm (DeleteFault acc) same = absurd (calm refl)
-
   -- ---- a cleanup that is asked for
 
-  opens_cleanup : (blobs : Blobs) → Back f blobs w.blobs → IsFree f (record w { deletes = fin.insert w.deletes w.next_op (record { uuids = []; clean = true; failed = false }); next_op = suc w.next_op; blobs = blobs; caller = no_caller })
+  pub opens_cleanup : (blobs : Blobs) → Back f blobs w.blobs → IsFree f (record w { deletes = fin.insert w.deletes w.next_op (record { uuids = []; clean = true; failed = false }); next_op = suc w.next_op; blobs = blobs; caller = no_caller })
   opens_cleanup blobs back =
       framed f w (record w { deletes = fin.insert w.deletes w.next_op (record { uuids = []; clean = true; failed = false }); next_op = suc w.next_op; blobs = blobs; caller = no_caller }) l
       (came_all f w) (own_all f w l) (waited f w shelf law l) (λ i n g h. inl h) back.were
       (tests_none f blobs no_caller refl refl)
-
-  pub asks_cleanup : (reply : Reply) (image : Option Image) → reply ≢ Refused DepotFault → CleanupAllows w reply → SameBlobs w image → IsFree f (heard_after f w (moment 0 (AskStep Cleanup) reply image))
-  asks_cleanup reply image calm (OpeningCleanup acc) same = opens_cleanup (blobs_in image w.blobs) (at_same f w image same)
-  asks_cleanup reply image calm (OpStands o clear lowest) same = anew (blobs_in image w.blobs) (at_same f w image same)
-  asks_cleanup reply image calm (TicketStands k none lowest) same = anew (blobs_in image w.blobs) (at_same f w image same)
-  asks_cleanup reply image calm (CleanupFault acc) same = absurd (calm refl)
 
   -- ---- its ticket has a plan
 
@@ -284,14 +264,12 @@ module _ (f : Formats) (w : World) (shelf : List Shelved) (law : Law f w shelf) 
       fetches f w shelf law l j g.t g.deleting.out.there name (told_blob f im name) (blobs_in im w.blobs)
       (at_same f w im (told_same w im (λ blobs. (bytes : Bytes) × (fin.get w.blobs (f.names.text name) ≡ Some bytes) × (blobs ≡ w.blobs)) (λ blobs h. h.2) found))
   prunes alone k prune reply image calm i told (ShardMissing j name im g found) = still im (told_same w im (λ blobs. (fin.get w.blobs (f.names.text name) ≡ None) × (blobs ≡ w.blobs)) (λ blobs h. h.1) found)
-  prunes alone k prune reply image calm i told (FetchShardFails j name im g same) = absurd (calm refl)
   prunes alone k prune reply image calm i told (Planning j shards im p fits back same) = plans j shards im p (blobs_in im w.blobs) (at_same f w im same)
   prunes alone k prune reply image calm i told (PlanSpent j shards im p spent same) = still im same
   prunes alone k prune reply image calm i told (SettlingDelete j im s present same) = settles j s present (blobs_in im w.blobs) (at_same f w im same)
   prunes alone k prune reply image calm i told (SettleDeleteStale j im s apart same) = still im same
-  prunes alone k prune reply image calm i told (SettleDeleteFails j im s present same) = absurd (calm refl)
   prunes alone k prune reply image calm i told (RemovingDoomed j names im r away) = removes_told alone j names im i told r away
-  prunes alone k prune reply image calm i told (RemoveDoomedFails j names im r away) = absurd (calm refl)
   prunes alone k prune reply image calm i told (EndingDelete j im e same) =
       changed f w shelf law l j e.t e.deleting.out.there (λ (t : Ticket). record t { out = false }) (ended f w shelf law l e.t) refl refl refl (blobs_in im w.blobs) (at_same f w im same)
   prunes alone k prune reply image calm i told (FailingDelete j why im c same) = fails j c.t c.deleting.out.there (blobs_in im w.blobs) (at_same f w im same)
+  prunes alone k prune reply image calm i told other = absurd (calm refl)

@@ -17,10 +17,10 @@ use Rattle.esr_core.specs.Steps.{Largest, Removes, with_ticket, settled, given, 
 use Rattle.esr_core.specs.Turns.{cleaning_ticket, fails}
 use Rattle.esr_core.specs.Past.{with_entry}
 use Rattle.esr_core.specs.Ids.{Law}
-use Rattle.esr_core.specs.Entry.{AskedIndex, CloneOf, Snapshot, Clone, Restore, Given, GivenShard, GivenFinalize, GivenDrop, GivenRestore, GivenClone, GivenDelete, GivenCleanup, Why, Read, ReadBlob, RestoredShard, CommitTest, RemoveTests, ReadFails, Step, AskStep, CommitStep, LatestStep, ReadStep, DepotFault, Reply, WasDone, WasReplaced, WasFetched, WasAbsent, WasRemoved, HasEnded, Refused, Moment}
+use Rattle.esr_core.specs.Entry.{AskedIndex, CloneOf, Snapshot, Clone, Given, GivenShard, GivenFinalize, GivenDrop, GivenRestore, GivenClone, GivenDelete, GivenCleanup, Why, Read, ReadBlob, RestoredShard, CommitTest, RemoveTests, ReadFails, Step, CommitStep, LatestStep, ReadStep, DepotFault, Reply, WasDone, WasReplaced, WasFetched, WasAbsent, WasRemoved, HasEnded, Refused, Moment}
 use Rattle.esr_core.specs.After.{new_names, asked, asked_op, cloned_op, taken_by, taken_shard, taken_restore, taken_restore_shard, read_told, shard_over, read_over, caller_told, caller_wrote, with_given, committing, told_blob, done_of, done_by, failed_of, failed_by, is_stale, settled_of, dropped_of, blobs_in, after}
 use Rattle.esr_core.specs.Allowed as allowed
-use Rattle.esr_core.specs.Allowed.{latest_text, Told, SameBlobs, Adds, Gives, Commits, Settles, Fails, Dones, Drops, MayDrawTest, IsOwnTest, RestoreAllows, OpeningRestore, NotListed, NamedByDelete, FullOfRestores, ReadAllows, ReadFound, ReadMissing, ReadFault, RestoringShard, ReaderFailing, CheckingAll, CheckFailing, VerifyAllows, DrawingTest, TestSpent, BeginningTest, BeginTestFails, CommittingTest, TestTaken, CommitTestFails, RemovingTests, RemoveTestsFails, VerifyingAll, VerifyFailing, CloneAllows, OpeningClone, CloneUsed, SourceNotListed, SourceDeleted, IndexMissing, FullOfClones, CloneSpent, CloneFault, Allows, Allowed}
+use Rattle.esr_core.specs.Allowed.{latest_text, Told, SameBlobs, Adds, Gives, Commits, Settles, Fails, Dones, Drops, MayDrawTest, IsOwnTest, ReadAllows, ReadFound, ReadMissing, ReadFault, RestoringShard, ReaderFailing, VerifyAllows, DrawingTest, TestSpent, BeginningTest, CommittingTest, TestTaken, RemovingTests, VerifyingAll, VerifyFailing, Allows, Allowed}
 use Rattle.esr_core.specs.Laws.SnapshotOps.{in_all}
 use Rattle.esr_core.specs.Laws.CloneOps.{copied_pending}
 use Rattle.std.specs.Cmp.Lexicographic.{nat_list_cmp_total}
@@ -39,8 +39,9 @@ use Rattle.esr_quiet.proofs.FreeParts.{Were, Back, at_same, told_same, own_were,
 use Rattle.esr_quiet.proofs.FreeBlobs.{used_below, free_committed}
 use Rattle.esr_quiet.proofs.FreeEnds.{has_indexed, free_done, live_settled}
 use Rattle.esr_quiet.proofs.FreeTickets.{waited, kept, beside, called, elected, changed, ended, noted, finds, fetches, lists, tries, ends, draws, raises}
-use Rattle.esr_quiet.proofs.FreeDeletes.{asks_delete, asks_cleanup, prunes}
+use Rattle.esr_quiet.proofs.FreeDeletes.{prunes, goes_into, opens_cleanup}
 use Rattle.esr_quiet.proofs.Alone.{IsAlone}
+use Rattle.esr_core.specs.Deletes.{named_uuids, waiting_delete, running_delete}
 
 -- the blobs after `index.latest` is replaced
 latest_back : (f : Formats) (blobs now : Blobs) (bytes : Bytes) → now ≡ fin.insert blobs (f.names.text Latest) bytes → ReadsBack f.names Latest → Back f now blobs
@@ -308,25 +309,6 @@ module _ (f : Formats) (size : ℕ) (w : World) (shelf : List Shelved) (law : La
   anew : (image : Option Image) → SameBlobs w image → (caller : Caller) → caller.drawn ≡ None → caller.wrote ≡ [] → IsFree f (record w { blobs = blobs_in image w.blobs; caller = caller })
   anew image same caller none empty = called f w shelf law l (blobs_in image w.blobs) (at_same f w image same).were caller (tests_none f (blobs_in image w.blobs) caller none empty)
 
-  asks_restore : (name place : Bytes) (reply : Reply) (image : Option Image) → RestoreAllows f w name reply image → SameBlobs w image → IsFree f (heard_after f w (moment 0 (AskStep (Restore name place)) reply image))
-  asks_restore name place reply image (OpeningRestore o uuid indices im acc) same =
-      beside f w shelf law l (put_restore w.restores w.next_op (restore_of uuid place indices)) w.readers (suc w.next_op) w.next_ticket
-      (blobs_in im w.blobs) (at_same f w im same).were no_caller (tests_none f (blobs_in im w.blobs) no_caller refl refl)
-  asks_restore name place reply image (NotListed im none) same = anew im same no_caller refl refl
-  asks_restore name place reply image (NamedByDelete uuid d im listed named) same = anew im same no_caller refl refl
-  asks_restore name place reply image (FullOfRestores uuid im listed spared full) same = anew im same no_caller refl refl
-
-  asks_clone : (source name : Bytes) (names : List Bytes) (time : ℕ) (taken : Option CloneOf) (reply : Reply) (image : Option Image) → reply ≢ Refused DepotFault → CloneAllows f w source name names time taken reply image → SameBlobs w image
-      → IsFree f (heard_after f w (moment 0 (AskStep (Clone source name names time taken)) reply image))
-  asks_clone source name names time taken reply image calm (OpeningClone t o im acc) same = clones f w shelf law l source name names time t (blobs_in im w.blobs) (at_same f w im same)
-  asks_clone source name names time taken reply image calm (CloneUsed uuid im clear is) same = anew im same no_caller refl refl
-  asks_clone source name names time taken reply image calm (SourceNotListed im may none) same = anew im same no_caller refl refl
-  asks_clone source name names time taken reply image calm (SourceDeleted uuid d im may listed named) same = anew im same no_caller refl refl
-  asks_clone source name names time taken reply image calm (IndexMissing uuid place im may first) same = anew im same no_caller refl refl
-  asks_clone source name names time taken reply image calm (FullOfClones uuid im may full) same = anew im same no_caller refl refl
-  asks_clone source name names time taken reply image calm (CloneSpent uuid im may room spent) same = anew im same no_caller refl refl
-  asks_clone source name names time taken reply image calm (CloneFault t im acc) same = absurd (calm refl)
-
   -- it goes on
   goes : (image : Option Image) → SameBlobs w image → (caller : Caller) → Tests f (blobs_in image w.blobs) caller → IsFree f (record w { blobs = blobs_in image w.blobs; caller = caller })
   goes image same caller tests = called f w shelf law l (blobs_in image w.blobs) (at_same f w image same).were caller tests
@@ -357,8 +339,7 @@ module _ (f : Formats) (size : ℕ) (w : World) (shelf : List Shelved) (law : La
   reads k read reply image calm (ReadFault j name im stored by) same = absurd (calm refl)
   reads k read reply image calm (RestoringShard j files bytes im q out done) same = read_done j files bytes im same
   reads k read reply image calm (ReaderFailing j why im q out) same = read_failed j why im same
-  reads k read reply image calm (CheckingAll snapshots blobs im checks) same = anew im same no_caller refl refl
-  reads k read reply image calm (CheckFailing why im looked) same = anew im same no_caller refl refl
+  reads k read reply image calm other same = anew image same no_caller refl refl
 
   adds_test : (name : BlobName) (bytes : Bytes) (image : Option Image) (i : Image) → image ≡ Some i → IsOwnTest f w name → Told image (Adds f w name bytes) → IsFree f (heard_after f w (moment 0 (ReadStep (CommitTest name)) WasDone image))
   adds_test name bytes None i told own adds = absurd (none-some i told)
@@ -381,14 +362,12 @@ module _ (f : Formats) (size : ℕ) (w : World) (shelf : List Shelved) (law : La
   verifies read reply image calm i told (DrawingTest im idle fits same) = draws_test f w shelf law l idle (blobs_in im w.blobs) (at_same f w im same)
   verifies read reply image calm i told (TestSpent im idle spent same) = goes im same (record w.caller { spent = true }) (tests_was f w l (blobs_in im w.blobs) (at_same f w im same))
   verifies read reply image calm i told (BeginningTest name im own same) = still im same
-  verifies read reply image calm i told (BeginTestFails name im own same) = absurd (calm refl)
   verifies read reply image calm i told (CommittingTest name bytes im own new adds) = adds_test name bytes im i told own adds
   verifies read reply image calm i told (TestTaken name im own found) = still im (told_same w im (λ blobs. Present f w.blobs name × (blobs ≡ w.blobs)) (λ blobs h. h.1) found)
-  verifies read reply image calm i told (CommitTestFails name bytes im own leaves) = absurd (calm refl)
   verifies read reply image calm i told (RemovingTests names im may left) = removes_tests names im i told left
-  verifies read reply image calm i told (RemoveTestsFails names im may left) = absurd (calm refl)
   verifies read reply image calm i told (VerifyingAll im done same) = anew im same no_caller refl refl
   verifies read reply image calm i told (VerifyFailing why im begun same) = anew im same no_caller refl refl
+  verifies read reply image calm i told other = absurd (calm refl)
 
   free_by : (who : ℕ) (step : Step) (reply : Reply) (image : Option Image) → reply ≢ Refused DepotFault → (i : Image) → image ≡ Some i → Allows f size w who step reply image → IsFree f (heard_after f w (moment who step reply image))
   free_by who step reply image calm i told (allowed.Accepting name indices time o im acc same) = asks f w shelf law l name indices time (blobs_in im w.blobs) (at_same f w im same)
@@ -416,17 +395,17 @@ module _ (f : Formats) (size : ℕ) (w : World) (shelf : List Shelved) (law : La
   free_by who step reply image calm i told (allowed.Dropping k im c same) = drops_step f w shelf law l k im c (blobs_in im w.blobs) (at_same f w im same)
   free_by who step reply image calm i told (allowed.Electing im room same) = elected f w shelf law l (blobs_in im w.blobs) (at_same f w im same)
   free_by who step reply image calm i told (allowed.Looking im same) = anew im same (record no_caller { looked = true }) refl refl
-  free_by who step reply image calm i told (allowed.AskingRestore name place rep im h same) = asks_restore name place rep im h same
-  free_by who step reply image calm i told (allowed.AskingClone source name names time taken rep im h same) = asks_clone source name names time taken rep im calm h same
-  free_by who step reply image calm i told (allowed.AskingDelete names rep im h same) = asks_delete f w shelf law l names rep im calm h same
-  free_by who step reply image calm i told (allowed.AskingCleanup rep im h same) = asks_cleanup f w shelf law l rep im calm h same
+  free_by who step reply image calm i told (allowed.OpeningRestore name place o uuid indices im acc same) =
+      beside f w shelf law l (put_restore w.restores w.next_op (restore_of uuid place indices)) w.readers (suc w.next_op) w.next_ticket
+      (blobs_in im w.blobs) (at_same f w im same).were no_caller (tests_none f (blobs_in im w.blobs) no_caller refl refl)
+  free_by who step reply image calm i told (allowed.OpeningClone source name names time o t im acc same) = clones f w shelf law l source name names time t (blobs_in im w.blobs) (at_same f w im same)
+  free_by who step reply image calm i told (allowed.GoingInto names im acc same) = goes_into f w shelf law l names (waiting_delete w) (running_delete w (named_uuids w names)) (blobs_in im w.blobs) (at_same f w im same)
+  free_by who step reply image calm i told (allowed.OpeningCleanup im acc same) = opens_cleanup f w shelf law l (blobs_in im w.blobs) (at_same f w im same)
   free_by who step reply image calm i told (allowed.Reading k read rep im h same) = reads k read rep im calm h same
   free_by who step reply image calm i told (allowed.Verifying read rep im h) = verifies read rep im calm i told h
   free_by who step reply image calm i told (allowed.Pruning k prune rep im h) = prunes f w shelf law l alone k prune rep im calm i told h
-  free_by who step reply image calm i told (allowed.Cleaning c d x im recorded untaken there clean same) = anew im same no_caller refl refl
-  free_by who step reply image calm i told (allowed.Used name indices time uuid im clear is same) = anew im same no_caller refl refl
-  free_by who step reply image calm i told (allowed.Full name indices time im clear unused full same) = anew im same no_caller refl refl
-  free_by who step reply image calm i told (allowed.AskSpent name indices time im clear unused room spent same) = anew im same no_caller refl refl
+  free_by who step reply image calm i told (allowed.Ruled command refusal im (allowed.Cleaning c d x recorded untaken there clean) same) = anew im same no_caller refl refl
+  free_by who step reply image calm i told (allowed.Ruled command refusal im rule same) = anew im same no_caller refl refl
   free_by who step reply image calm i told (allowed.DrawSpent k n im may spent same) = still im same
   free_by who step reply image calm i told (allowed.RaiseStale k im may apart same) = still im same
   free_by who step reply image calm i told (allowed.SettleStale k n t s im may apart same) = still im same
@@ -434,17 +413,7 @@ module _ (f : Formats) (size : ℕ) (w : World) (shelf : List Shelved) (law : La
   free_by who step reply image calm i told (allowed.RaiseSpent k im may present spent same) = still im same
   free_by who step reply image calm i told (allowed.ElectSpent im spent same) = still im same
   free_by who step reply image calm i told (allowed.Taken k name im c aside found) = still im (told_same w im (λ blobs. Present f w.blobs name × (blobs ≡ w.blobs)) (λ blobs h. h.1) found)
-  free_by who step reply image calm i told (allowed.BeginFails k name im c same) = absurd (calm refl)
-  free_by who step reply image calm i told (allowed.BeginLatestFails k im c same) = absurd (calm refl)
-  free_by who step reply image calm i told (allowed.CommitFails k name im c leaves) = absurd (calm refl)
-  free_by who step reply image calm i told (allowed.ReplaceFails k im c named puts) = absurd (calm refl)
-  free_by who step reply image calm i told (allowed.FetchFails k name im g same) = absurd (calm refl)
-  free_by who step reply image calm i told (allowed.ListFails k from im g same) = absurd (calm refl)
-  free_by who step reply image calm i told (allowed.AskFails name indices time im acc same) = absurd (calm refl)
-  free_by who step reply image calm i told (allowed.RaiseFails k im r same) = absurd (calm refl)
-  free_by who step reply image calm i told (allowed.SettleFails k im s same) = absurd (calm refl)
-  free_by who step reply image calm i told (allowed.DropFails k im c same) = absurd (calm refl)
-  free_by who step reply image calm i told (allowed.ElectFails im room same) = absurd (calm refl)
+  free_by who step reply image calm i told other = absurd (calm refl)
 
 pub step_free : (f : Formats) (size : ℕ) (w : World) (shelf : List Shelved) → Law f w shelf → IsFree f w → IsAlone w → (m : Moment) → m.entry.reply ≢ Refused DepotFault → (i : Image) → m.image ≡ Some i → Allowed f size w m
     → IsFree f (after f w m)

@@ -35,18 +35,15 @@ module _ (has : BlobName → Bytes → Type 0) (one : IsOne has) where
   whole : (len size : ℕ) (names : List BlobName) (parts fronts : List Bytes) → AllPairs has names parts → AreFull size parts → length (image.concat parts) ≡ len → AllPairs (IsFront has) (sized len size names) fronts
       → Whole (sized len size names) parts fronts
   whole len size [] [] [] there full sum read = record { same = refl; exact = tt }
-  whole len size [] [] (y ∷ ys) there full sum read = absurd read
   whole len size [] (p ∷ ps) fronts there full sum read = absurd there
   whole len size (n ∷ ns) [] fronts there full sum read = absurd there
   whole len size (n ∷ []) (p ∷ q ∷ ps) fronts there full sum read = absurd there.1
-  whole len size (n ∷ []) (p ∷ []) [] there full sum read = absurd read
   whole len size (n ∷ []) (p ∷ []) (y ∷ z ∷ ys) there full sum read = absurd read.1
   whole len size (n ∷ []) (p ∷ []) (y ∷ []) there full sum read =
       let long : length p ≡ len = ap (λ (l : Bytes). length l) (sym (append-nil p)) ∙ sum in
       let same : y ≡ p = front_is len n p y there.0 long read.0 in
       record { same = ap (λ (b : Bytes). b ∷ []) same; exact = (ap (λ (l : Bytes). length l) same ∙ long, tt) }
   whole len size (n ∷ m ∷ ns) (p ∷ []) fronts there full sum read = absurd there.1
-  whole len size (n ∷ m ∷ ns) (p ∷ q ∷ ps) [] there full sum read = absurd read
   whole len size (n ∷ m ∷ ns) (p ∷ q ∷ ps) (y ∷ ys) there full sum read =
       let both : length p + length (image.concat (q ∷ ps)) ≡ len = sym (length-append p (image.concat (q ∷ ps))) ∙ sum in
       let long : length p ≡ size = full.0 in
@@ -54,6 +51,7 @@ module _ (has : BlobName → Bytes → Type 0) (one : IsOne has) where
       let rest = whole (len - size) size (m ∷ ns) (q ∷ ps) ys there.1 full.1 left read.1 in
       let same : y ≡ p = front_is size n p y there.0 long read.0 in
       record { same = ap (λ (b : Bytes). b ∷ ys) same ∙ ap (λ (l : List Bytes). p ∷ l) rest.same; exact = (ap (λ (l : Bytes). length l) same ∙ long, rest.exact) }
+  whole len size names parts fronts there full sum read = absurd read
 
   -- so the fronts joined are the file, and each is exact
   pub file_whole : (f : Formats) (index number : ℕ) (e : FileEntry) (bytes : Bytes) (fronts : List Bytes) → FileStands f has index number e bytes → AreFronts has index number e fronts

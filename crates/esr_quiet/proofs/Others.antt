@@ -5,10 +5,10 @@ use Rattle.esr_model.specs.Values.{Formats}
 use Rattle.esr_model.specs.Image.{Image}
 use Rattle.esr_core.specs.World.{World, Op, ShardWork, Ticket, RestoreShard, Restoring}
 use Rattle.esr_core.specs.Restores.{restore_shard}
-use Rattle.esr_core.specs.Entry.{Given, GivenShard, GivenFinalize, GivenDrop, GivenRestore, GivenClone, GivenDelete, GivenCleanup, Step, TakeStep, DepotFault, Reply, Gave, Refused, Moment}
+use Rattle.esr_core.specs.Entry.{Given, GivenShard, GivenFinalize, GivenRestore, GivenClone, Step, TakeStep, DepotFault, Reply, Gave, Refused, Moment}
 use Rattle.esr_core.specs.After.{taken_shard, taken_restore_shard, taken_restore, taken_by, shard_of, answered, after}
 use Rattle.esr_core.specs.Allowed.{Allowed}
-use Rattle.esr_core.specs.Changes.{StepChange, NoChange, NewOp, NewDeletion, MergedDeletion, NewRestore, NewTicket, NewReader, OwnTicket, Settlement, UnitEnd, DeletionFailure, OpDrop, Election, ReaderFetch, ReaderEnd, PlainDraw, TestBlob, SwapFault}
+use Rattle.esr_core.specs.Changes.{StepChange, NewTicket, OwnTicket, Settlement, UnitEnd, DeletionFailure, OpDrop, SwapFault}
 use Rattle.esr_core.specs.History.{world_from, IsLegal}
 use Rattle.esr_core.specs.Laws.TakeAnswers.{take_gave}
 use Rattle.esr_core.specs.Laws.ChangeLaws.{change_of}
@@ -45,42 +45,28 @@ others_taken f w o (GivenShard index number base) (Some op) q apart = others_sha
 others_taken f w o (GivenShard index number base) None q apart = refl
 others_taken f w o (GivenClone index number source base) (Some op) q apart = others_shard w o op base (shard_of op.shards index number) q apart
 others_taken f w o (GivenClone index number source base) None q apart = refl
-others_taken f w o (GivenFinalize info results) (Some op) q apart = other_in w.tickets w.next_ticket _ q apart
 others_taken f w o (GivenFinalize info results) None q apart = refl
-others_taken f w o GivenDrop op q apart = other_in w.tickets w.next_ticket _ q apart
 others_taken f w o (GivenRestore index number uuid) op q apart = others_restore w o index number (fin.get w.restores o) q
-others_taken f w o (GivenDelete uuids) op q apart = other_in w.tickets w.next_ticket _ q apart
-others_taken f w o GivenCleanup op q apart = other_in w.tickets w.next_ticket _ q apart
+others_taken f w o unit op q apart = other_in w.tickets w.next_ticket _ q apart
 
 -- that gives none
 take_leaves : (f : Formats) (w : World) (k : ℕ) (reply : Reply) (image : Option Image) (q : ℕ) → GivesNone reply → held (answered f w k TakeStep reply image) q ≡ held w q
 take_leaves f w k (Gave ticket op unit) image q none = absurd (none ticket op unit refl)
 take_leaves f w k (Refused DepotFault) image q none = refl
-take_leaves f w k (Refused refusal) image q none = refl
 take_leaves f w k reply image q none = refl
 
 -- ---- each step
 
 module _ (f : Formats) (w : World) (k : ℕ) (step : Step) (no_take : IsTake step → ⊥) (q : ℕ) (apart : q ≢ k) where
   kept : (new : World) → StepChange f w k step new → held new q ≡ held w q
-  kept new NoChange = refl
-  kept new (NewOp ask op completed next_id is above) = refl
-  kept new (NewDeletion ask ops x aborts clean) = refl
-  kept new (MergedDeletion ask ops d x v aborts there clean failed) = refl
-  kept new (NewRestore ask r) = refl
   kept new (NewTicket take t is ops same) = absurd (no_take (subst IsTake (sym take) tt))
-  kept new (NewReader take o r s there) = refl
   kept new (OwnTicket t v there unit settled next_id pending id_above above) = other_in w.tickets k v q apart
   kept new (Settlement is t s n names deletes there swapped raised left) = other_in w.tickets k _ q apart
   kept new (UnitEnd t op v completed there op_there same) = other_in w.tickets k _ q apart
   kept new (DeletionFailure t x there found) = other_in w.tickets k _ q apart
   kept new (OpDrop is t there) = other_in w.tickets k _ q apart
-  kept new (Election is) = refl
-  kept new (ReaderFetch reader name bytes there) = refl
-  kept new (ReaderEnd reader r state there found) = refl
-  kept new (PlainDraw next_id pending id_above above) = refl
-  kept new (TestBlob name is) = refl
   kept new (SwapFault swaps up change) = kept up change
+  kept new other = refl
 
 others_answered : (f : Formats) (w : World) (k : ℕ) (step : Step) (reply : Reply) (image : Option Image) (q : ℕ) → q ≢ k → GivesNone reply → held (answered f w k step reply image) q ≡ held w q
 others_answered f w k TakeStep reply image q apart none = take_leaves f w k reply image q none

@@ -11,7 +11,7 @@ use Rattle.esr_model.specs.Parts.{part_names}
 use Rattle.esr_model.specs.Image.{Blobs, Image, Reads, FileStands}
 use Rattle.esr_core.specs.World.{World, Reader, HeldIn, Opened, OpenedEmpty, OpenedRecord, opened, no_record, no_root}
 use Rattle.esr_core.specs.Restores.{IsReading, WasRead}
-use Rattle.esr_core.specs.Entry.{Reason, Why, OfDepot, OfSource, OfChange, OfAbsence, OfUnreadable, OfAhead, OfTaken, OfAbort, OfIdsSpent, OfGenerationsSpent, OfTarget, OfPrint, OfDisagreement, Read, ReadBlob, ReadFails, Step, ReadStep, Reply, WasAbsent, HasEnded, Moment, Refusal, Refused}
+use Rattle.esr_core.specs.Entry.{Reason, Why, OfDepot, OfAbsence, OfUnreadable, OfTarget, OfPrint, OfDisagreement, Read, ReadBlob, ReadFails, Step, ReadStep, Reply, WasAbsent, HasEnded, Moment, Refusal, Refused}
 use Rattle.esr_core.specs.Allowed as allowed
 use Rattle.esr_core.specs.Allowed.{Told, MayRead, Fetcher, ByReader, ByCheck, ByVerify, ReadAllows, ReadMissing, ReaderFailing, CheckFailing, VerifyAllows, VerifyFailing, Allows, Allowed}
 use Rattle.esr_core.specs.History.{world_from, IsLegal, AreTold}
@@ -68,7 +68,6 @@ tells f size w who step reply image a = tt
 -- a refusal tells nothing
 refused_tells : (f : Formats) (w : World) (who : ℕ) (step : Step) (refusal : Refusal) (image : Option Image) → Tells f w who step (Refused refusal) image
 refused_tells f w who (ReadStep (ReadBlob name)) refusal image = tt
-refused_tells f w who (ReadStep (ReadFails why)) refusal image = tt
 refused_tells f w who step refusal image = tt
 
 told_by : (f : Formats) (size : ℕ) (w : World) (m : Moment) → w.deposed ≡ false → Allowed f size w m → Tells f w m.entry.who m.entry.step m.entry.reply m.image
@@ -231,15 +230,7 @@ module _ (s : Start) (log : List Moment) (lawful : IsLawful s log) (alive : IsAl
   undamaged e front back is who some reading (OfUnreadable name reason) b damage h = let x = read_shown b _ h in unread front back is who reading name reason x.0 x.1
   undamaged e front back is who some reading (OfPrint name stated_len stated_digest found_len found_digest) b damage h = printed front back is who reading name stated_len stated_digest found_len found_digest (read_shown b _ h)
   undamaged e front back is who some reading (OfDisagreement name other) b damage h = uncut front back is who reading name other (read_shown b _ h)
-  undamaged e front back is who some reading OfDepot b damage h = damage
-  undamaged e front back is who some reading OfTarget b damage h = damage
-  undamaged e front back is who some reading (OfAhead name id) b damage h = damage
-  undamaged e front back is who some reading OfSource b damage h = damage
-  undamaged e front back is who some reading (OfChange first_len first_digest second_len second_digest) b damage h = damage
-  undamaged e front back is who some reading (OfTaken name) b damage h = damage
-  undamaged e front back is who some reading (OfAbort op) b damage h = damage
-  undamaged e front back is who some reading (OfIdsSpent next) b damage h = damage
-  undamaged e front back is who some reading (OfGenerationsSpent pending) b damage h = damage
+  undamaged e front back is who some reading why b damage h = damage
 
 -- a report, and what its ticket is
 record ReportOf (s : Start) (log : List Moment) (m : Moment) (why : Why) : Type 0 where
@@ -268,12 +259,8 @@ none_damaged laws s log lawful e faults shown m why has some step reply damage =
 module _ (s : Start) (log : List Moment) (smooth : IsSmooth s log) (lawful : IsLawful s log) (all_serve : (front back : List Moment) → log ≡ front ++ back → IsServing (formats_of s) (world_of s front)) (sure : s.sure_targets ≡ true) where
   -- no target fails
   target_of : {S F H T : Type 0} (e : Evidence S F H T) (q : Reader) (b : By S F H T) → TargetShown e s q b → ⊥
-  target_of e q (by.Object (objects.Stage stage)) h = h
-  target_of e q (by.Object (objects.Fetch fetch)) h = h
-  target_of e q (by.Object (objects.Shard shard)) h = h
   target_of e q (by.Object (objects.Target target)) h = true≢false (sym sure ∙ h.unsure)
-  target_of e q by.Entry h = h
-  target_of e q by.Nothing h = h
+  target_of e q b h = h
 
   -- no cause is shown
   shows : {S F H T : Type 0} (e : Evidence S F H T) (front back : List Moment) → log ≡ front ++ back → (who : ℕ) → 1 ≤ who → IsReading (world_of s front) who (reader_of s front who) → (why : Why) (b : By S F H T)
@@ -282,16 +269,10 @@ module _ (s : Start) (log : List Moment) (smooth : IsSmooth s log) (lawful : IsL
   shows e front back is who some reading OfTarget b h = target_of e (reader_of s front who) b h
   shows e front back is who some reading (OfAbsence name) b h = undamaged s log lawful (smooth_alive s log smooth) all_serve e front back is who some reading (OfAbsence name) b tt h
   shows e front back is who some reading (OfUnreadable name reason) b h = undamaged s log lawful (smooth_alive s log smooth) all_serve e front back is who some reading (OfUnreadable name reason) b tt h
-  shows e front back is who some reading (OfAhead name id) b h = h
   shows e front back is who some reading (OfPrint name stated_len stated_digest found_len found_digest) b h =
       undamaged s log lawful (smooth_alive s log smooth) all_serve e front back is who some reading (OfPrint name stated_len stated_digest found_len found_digest) b tt h
   shows e front back is who some reading (OfDisagreement name other) b h = undamaged s log lawful (smooth_alive s log smooth) all_serve e front back is who some reading (OfDisagreement name other) b tt h
-  shows e front back is who some reading OfSource b h = h
-  shows e front back is who some reading (OfChange first_len first_digest second_len second_digest) b h = h
-  shows e front back is who some reading (OfTaken name) b h = h
-  shows e front back is who some reading (OfAbort op) b h = h
-  shows e front back is who some reading (OfIdsSpent next) b h = h
-  shows e front back is who some reading (OfGenerationsSpent pending) b h = h
+  shows e front back is who some reading why b h = h
 
   pub none_unrestored : {S F H T : Type 0} (e : Evidence S F H T) (faults : List (Fault S F H T)) → AreCaused hands.Restore e s log faults → NoneUnrestored log
   none_unrestored e faults shown m why has some step reply =

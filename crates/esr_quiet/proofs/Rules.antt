@@ -1,18 +1,18 @@
 -- Only a rule of accepting refuses a step where each world of the history is free, or its term a stale ticket's swap.
-use Rattle.std.proofs.Common.{◌≡◌, ◌≢◌, ◌⊎◌, ℕ, true, true≢false, List, ◌∷◌, ◌++◌, Option, Some, None, refl, sym, ap, ◌∙◌, subst, inl, inr}
+use Rattle.std.proofs.Common.{◌≡◌, ◌≢◌, ◌⊎◌, ℕ, true≢false, List, ◌∷◌, ◌++◌, Option, Some, refl, sym, ap, ◌∙◌, subst, inl, inr}
 use Rattle.std.specs.FinMap as fin
 use Rattle.esr_model.specs.Names.{BlobName}
-use Rattle.esr_model.specs.Values.{Bytes, Has, Formats}
+use Rattle.esr_model.specs.Values.{Has, Formats}
 use Rattle.esr_model.specs.Image.{Image, Present}
 use Rattle.esr_core.specs.World.{World, Ticket}
 use Rattle.esr_core.specs.Steps.{IsOut}
-use Rattle.esr_core.specs.Entry.{Asked, Snapshot, Clone, CloneOf, DeleteSnapshots, Restore, Cleanup, is_recorded, Read, CommitTest, Prune, SettlePruned, Step, AskStep, CommitStep, RaiseStep, SettleStep, DroppedStep, ReadStep, PruneStep, CleanupRunning, StaleTerm, Refusal, Reply, Refused, DepotFault, Moment}
+use Rattle.esr_core.specs.Entry.{Asked, Cleanup, Read, CommitTest, Prune, SettlePruned, Step, AskStep, CommitStep, RaiseStep, SettleStep, DroppedStep, ReadStep, PruneStep, StaleTerm, Refusal, Reply, Refused, DepotFault, Moment}
 use Rattle.esr_core.specs.Allowed as allowed
-use Rattle.esr_core.specs.Allowed.{Told, IsMetadata, CloneAllows, OpeningClone, CloneUsed, SourceNotListed, SourceDeleted, IndexMissing, FullOfClones, CloneSpent, CloneFault, DeleteAllows, GoingInto, NotNamed, CloneStands, RestoreStands, FullOfOps, DeleteFault, CleanupAllows, OpeningCleanup, OpStands, TicketStands, CleanupFault, RestoreAllows, OpeningRestore, NotListed, NamedByDelete, FullOfRestores, ReadAllows, ReadFound, ReadMissing, ReadFault, RestoringShard, ReaderFailing, CheckingAll, CheckFailing, VerifyAllows, DrawingTest, TestSpent, BeginningTest, BeginTestFails, CommittingTest, TestTaken, CommitTestFails, RemovingTests, RemoveTestsFails, VerifyingAll, VerifyFailing, PruneAllows, FetchingShard, ShardMissing, FetchShardFails, Planning, PlanSpent, SettlingDelete, SettleDeleteStale, SettleDeleteFails, RemovingDoomed, RemoveDoomedFails, EndingDelete, FailingDelete, Allows}
+use Rattle.esr_core.specs.Allowed.{Told, IsMetadata, ReadAllows, ReadFault, VerifyAllows, TestSpent, BeginTestFails, TestTaken, CommitTestFails, RemoveTestsFails, PruneAllows, FetchShardFails, PlanSpent, SettleDeleteStale, SettleDeleteFails, RemoveDoomedFails, Allows, RefusedBy}
 use Rattle.esr_desk.specs.Start.{Start, formats_of, world_of, or_no_ticket}
 use Rattle.esr_quiet.specs.Free.{Free}
 use Rattle.esr_quiet.specs.Smooth.{IsSpent, IsSmooth}
-use Rattle.esr_quiet.specs.Refusals.{IsByRule, HasAskedCleanup, IsOfCleanup, IsOfRule, IsSwapStep, IsOfTerm, AreByRule}
+use Rattle.esr_quiet.specs.Refusals.{HasAskedCleanup, IsOfCleanup, IsOfRule, IsSwapStep, IsOfTerm, AreByRule}
 use Rattle.esr_quiet.specs.Prefixes.{Prefixes}
 use Rattle.esr_quiet.specs.PrefixLaws.{place_of, has_at, quiet_at, legal_at, smooth_front}
 use Rattle.esr_quiet.proofs.Prefixes.{told_at}
@@ -21,6 +21,8 @@ use Rattle.esr_quiet.proofs.Terms.{stale_or_present}
 use Rattle.esr_quiet.specs.QuietWorlds.{IsQuiet}
 use Rattle.esr_quiet.proofs.FreeCommits.{taken}
 use Rattle.esr_quiet.proofs.Unaborted.{none_blocked}
+use Rattle.esr_core.specs.Refusing.{IsByRule}
+use Rattle.esr_core.specs.Laws.Rules.{of_cleanup}
 
 -- ---- each refusal
 
@@ -62,97 +64,42 @@ module _ (s : Start) (log : List Moment) (f : Formats) (size : ℕ) (w : World) 
   of_term : (k : ℕ) (t : Ticket) (step : Step) → IsOut w k t → t.term ≢ w.term → IsSwapStep step → IsRuled log w k step (Refused (StaleTerm t.term w.term))
   of_term k t step out older swaps = inr (record { own = t.term; now = w.term; is = refl; swaps = swaps; t = t; there = out.there; older = older })
 
-  asks_restore : (name place : Bytes) (reply : Reply) (image : Option Image) → RestoreAllows f w name reply image → IsRuled log w 0 (AskStep (Restore name place)) reply
-  asks_restore name place reply image (OpeningRestore o uuid indices im acc) = tt
-  asks_restore name place reply image (NotListed im none) = inl ((Restore name place, refl), tt, tt)
-  asks_restore name place reply image (NamedByDelete uuid d im listed named) = inl ((Restore name place, refl), tt, tt)
-  asks_restore name place reply image (FullOfRestores uuid im listed spared full) = inl ((Restore name place, refl), tt, tt)
-
-  asks_clone : (source name : Bytes) (names : List Bytes) (moment : ℕ) (taken : Option CloneOf) (reply : Reply) (image : Option Image) → (reply ≢ Refused DepotFault) → (IsSpent reply → ⊥)
-      → CloneAllows f w source name names moment taken reply image
-      → IsRuled log w 0 (AskStep (Clone source name names moment taken)) reply
-  asks_clone source name names moment taken reply image calm unspent (OpeningClone t o im acc) = tt
-  asks_clone source name names moment taken reply image calm unspent (CloneUsed uuid im clear is) = inl ((Clone source name names moment None, refl), tt, tt)
-  asks_clone source name names moment taken reply image calm unspent (SourceNotListed im may none) = inl ((Clone source name names moment None, refl), tt, tt)
-  asks_clone source name names moment taken reply image calm unspent (SourceDeleted uuid d im may listed named) = inl ((Clone source name names moment None, refl), tt, tt)
-  asks_clone source name names moment taken reply image calm unspent (IndexMissing uuid place im may first) = inl ((Clone source name names moment None, refl), tt, tt)
-  asks_clone source name names moment taken reply image calm unspent (FullOfClones uuid im may full) = inl ((Clone source name names moment None, refl), tt, tt)
-  asks_clone source name names moment taken reply image calm unspent (CloneSpent uuid im may room spent) = absurd (unspent tt)
-  asks_clone source name names moment taken reply image calm unspent (CloneFault t im acc) = absurd (calm refl)
-
-  asks_delete : (names : List Bytes) (reply : Reply) → (reply ≢ Refused DepotFault) → DeleteAllows w names reply → IsRuled log w 0 (AskStep (DeleteSnapshots names)) reply
-  asks_delete names reply calm (GoingInto acc) = tt
-  asks_delete names reply calm (NotNamed place clear first) = inl ((DeleteSnapshots names, refl), tt, tt)
-  asks_delete names reply calm (CloneStands o clear named lowest) = inl ((DeleteSnapshots names, refl), tt, tt)
-  asks_delete names reply calm (RestoreStands o clear named no_clone lowest) = inl ((DeleteSnapshots names, refl), tt, tt)
-  asks_delete names reply calm (FullOfOps may new full) = inl ((DeleteSnapshots names, refl), tt, tt)
-  asks_delete names reply calm (DeleteFault acc) = absurd (calm refl)
-
-  asks_cleanup : (reply : Reply) → (reply ≢ Refused DepotFault) → AsksApart w (AskStep Cleanup) → CleanupAllows w reply → IsRuled log w 0 (AskStep Cleanup) reply
-  asks_cleanup reply calm aside (OpeningCleanup acc) = tt
-  asks_cleanup reply calm aside (OpStands o clear lowest) = inl ((Cleanup, refl), tt, tt)
-  asks_cleanup reply calm aside (TicketStands k none lowest) = absurd (aside Cleanup k lowest.0.0 refl lowest.0.1)
-  asks_cleanup reply calm aside (CleanupFault acc) = absurd (calm refl)
-
-  -- a cleanup that runs was asked, and refuses each command that is recorded
-  cleans : (command : Asked) (d : ℕ) → is_recorded command ≡ true → HasAskedCleanup log → IsRuled log w 0 (AskStep command) (Refused (CleanupRunning d))
-  cleans (Snapshot name indices moment) d recorded asked = inl ((Snapshot name indices moment, refl), tt, asked)
-  cleans (Clone source name names moment taken) d recorded asked = inl ((Clone source name names moment taken, refl), tt, asked)
-  cleans (DeleteSnapshots names) d recorded asked = inl ((DeleteSnapshots names, refl), tt, asked)
-  cleans (Restore name place) d recorded asked = absurd (true≢false (sym recorded))
-  cleans Cleanup d recorded asked = inl ((Cleanup, refl), tt, asked)
+  -- a rule refuses that is none of ids, nor of tickets that are out; a cleanup that runs was asked
+  rules : (command : Asked) (refusal : Refusal) → (IsSpent (Refused refusal) → ⊥) → AsksApart w (AskStep command) → RefusedBy w command refusal → OfRule log (AskStep command) refusal
+  rules command refusal unspent aside (allowed.Cleaning c d x recorded untaken there clean) = ((c, refl), of_cleanup c d recorded, q.cleanups d x there clean)
+  rules command refusal unspent aside (allowed.AskSpent name indices moment clear unused room spent) = absurd (unspent tt)
+  rules command refusal unspent aside (allowed.CloneSpent source name names moment uuid may room spent) = absurd (unspent tt)
+  rules command refusal unspent aside (allowed.TicketStands k none lowest) = absurd (aside Cleanup k lowest.0.0 refl lowest.0.1)
+  rules command refusal unspent aside other = ((command, refl), tt, tt)
 
   reads : (k : ℕ) (read : Read) (reply : Reply) (image : Option Image) → (reply ≢ Refused DepotFault) → ReadAllows f w k read reply image → IsRuled log w k (ReadStep read) reply
-  reads k read reply image calm (ReadFound j name im stored by there) = tt
-  reads k read reply image calm (ReadMissing j name im stored by none) = tt
   reads k read reply image calm (ReadFault j name im stored by) = absurd (calm refl)
-  reads k read reply image calm (RestoringShard j files bytes im r out done) = tt
-  reads k read reply image calm (ReaderFailing j why im r out) = tt
-  reads k read reply image calm (CheckingAll snapshots blobs im checks) = tt
-  reads k read reply image calm (CheckFailing why im looked) = tt
+  reads k read reply image calm other = tt
 
   prunes : (k : ℕ) (prune : Prune) (reply : Reply) (image : Option Image) → (reply ≢ Refused DepotFault) → (IsSpent reply → ⊥) → PruneAllows f w k prune reply image → IsRuled log w k (PruneStep prune) reply
-  prunes k prune reply image calm unspent (FetchingShard j name im g found) = tt
-  prunes k prune reply image calm unspent (ShardMissing j name im g found) = tt
   prunes k prune reply image calm unspent (FetchShardFails j name im g same) = absurd (calm refl)
-  prunes k prune reply image calm unspent (Planning j shards im p fits back same) = tt
   prunes k prune reply image calm unspent (PlanSpent j shards im p spent same) = absurd (unspent tt)
-  prunes k prune reply image calm unspent (SettlingDelete j im x now same) = tt
   prunes k prune reply image calm unspent (SettleDeleteStale j im x apart same) = of_term j x.t (PruneStep SettlePruned) x.may.out apart tt
   prunes k prune reply image calm unspent (SettleDeleteFails j im x now same) = absurd (calm refl)
-  prunes k prune reply image calm unspent (RemovingDoomed j names im r removed) = tt
   prunes k prune reply image calm unspent (RemoveDoomedFails j names im r removed) = absurd (calm refl)
-  prunes k prune reply image calm unspent (EndingDelete j im e same) = tt
-  prunes k prune reply image calm unspent (FailingDelete j why im x same) = tt
+  prunes k prune reply image calm unspent other = tt
 
   -- a test blob that is there is one that who 0 committed
   verifies : (read : Read) (reply : Reply) (image : Option Image) (i : Image) → image ≡ Some i → (reply ≢ Refused DepotFault) → (IsSpent reply → ⊥) → IsNewTest w (ReadStep read) → VerifyAllows f w read reply image
       → IsRuled log w 0 (ReadStep read) reply
-  verifies read reply image i told calm unspent new (DrawingTest im idle fits same) = tt
   verifies read reply image i told calm unspent new (TestSpent im idle spent same) = absurd (unspent tt)
-  verifies read reply image i told calm unspent new (BeginningTest name im own same) = tt
   verifies read reply image i told calm unspent new (BeginTestFails name im own same) = absurd (calm refl)
-  verifies read reply image i told calm unspent new (CommittingTest name bytes im own first adds) = tt
   verifies read reply image i told calm unspent new (TestTaken name im own there) = absurd (new name refl (free.tests own.id name own.drawn own.test (found name im i told there)))
   verifies read reply image i told calm unspent new (CommitTestFails name bytes im own leaves) = absurd (calm refl)
-  verifies read reply image i told calm unspent new (RemovingTests names im may left) = tt
   verifies read reply image i told calm unspent new (RemoveTestsFails names im may left) = absurd (calm refl)
-  verifies read reply image i told calm unspent new (VerifyingAll im done same) = tt
-  verifies read reply image i told calm unspent new (VerifyFailing why im begun same) = tt
+  verifies read reply image i told calm unspent new other = tt
 
   ruled : (who : ℕ) (step : Step) (reply : Reply) (image : Option Image) (i : Image) → image ≡ Some i → (reply ≢ Refused DepotFault) → (IsSpent reply → ⊥) → IsNew w who step → IsNewTest w step → AsksApart w step
       → Allows f size w who step reply image → IsRuled log w who step reply
-  ruled who step reply image i told calm unspent new new_test apart_ask (allowed.AskingRestore name place rep im h same) = asks_restore name place rep im h
-  ruled who step reply image i told calm unspent new new_test apart_ask (allowed.AskingClone source name names moment taken rep im h same) = asks_clone source name names moment taken rep im calm unspent h
-  ruled who step reply image i told calm unspent new new_test apart_ask (allowed.AskingDelete names rep im h same) = asks_delete names rep calm h
-  ruled who step reply image i told calm unspent new new_test apart_ask (allowed.AskingCleanup rep im h same) = asks_cleanup rep calm apart_ask h
   ruled who step reply image i told calm unspent new new_test apart_ask (allowed.Reading k read rep im h same) = reads k read rep im calm h
   ruled who step reply image i told calm unspent new new_test apart_ask (allowed.Verifying read rep im h) = verifies read rep im i told calm unspent new_test h
   ruled who step reply image i told calm unspent new new_test apart_ask (allowed.Pruning k prune rep im h) = prunes k prune rep im calm unspent h
-  ruled who step reply image i told calm unspent new new_test apart_ask (allowed.Cleaning command d x im recorded untaken there clean same) = cleans command d recorded (q.cleanups d x there clean)
-  ruled who step reply image i told calm unspent new new_test apart_ask (allowed.Used name indices moment uuid im clear is same) = inl ((Snapshot name indices moment, refl), tt, tt)
-  ruled who step reply image i told calm unspent new new_test apart_ask (allowed.Full name indices moment im clear unused full same) = inl ((Snapshot name indices moment, refl), tt, tt)
-  ruled who step reply image i told calm unspent new new_test apart_ask (allowed.AskSpent name indices moment im clear unused room spent same) = absurd (unspent tt)
+  ruled who step reply image i told calm unspent new new_test apart_ask (allowed.Ruled command refusal im rule same) = inl (rules command refusal unspent apart_ask rule)
   ruled who step reply image i told calm unspent new new_test apart_ask (allowed.DrawSpent k n im may spent same) = absurd (unspent tt)
   ruled who step reply image i told calm unspent new new_test apart_ask (allowed.RaiseStale k im may apart same) = of_term k may.t RaiseStep may.out apart tt
   ruled who step reply image i told calm unspent new new_test apart_ask (allowed.SettleStale k n t swapped im may apart same) = of_term k t SettleStep may.out apart tt
@@ -167,6 +114,9 @@ module _ (s : Start) (log : List Moment) (f : Formats) (size : ℕ) (w : World) 
   ruled who step reply image i told calm unspent new new_test apart_ask (allowed.FetchFails k name im g same) = absurd (calm refl)
   ruled who step reply image i told calm unspent new new_test apart_ask (allowed.ListFails k from im g same) = absurd (calm refl)
   ruled who step reply image i told calm unspent new new_test apart_ask (allowed.AskFails name indices moment im acc same) = absurd (calm refl)
+  ruled who step reply image i told calm unspent new new_test apart_ask (allowed.AskCloneFails source name names moment taken im acc same) = absurd (calm refl)
+  ruled who step reply image i told calm unspent new new_test apart_ask (allowed.AskDeleteFails names im acc same) = absurd (calm refl)
+  ruled who step reply image i told calm unspent new new_test apart_ask (allowed.AskCleanupFails im acc same) = absurd (calm refl)
   ruled who step reply image i told calm unspent new new_test apart_ask (allowed.RaiseFails k im r same) = absurd (calm refl)
   ruled who step reply image i told calm unspent new new_test apart_ask (allowed.SettleFails k im x same) = absurd (calm refl)
   ruled who step reply image i told calm unspent new new_test apart_ask (allowed.DropFails k im c same) = absurd (calm refl)

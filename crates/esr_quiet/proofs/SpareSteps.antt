@@ -18,10 +18,10 @@ use Rattle.esr_core.specs.Turns.{Aborts, cleaning_ticket, fails}
 use Rattle.esr_core.specs.Pruning.{planned}
 use Rattle.esr_core.specs.Deletes.{named_uuids, waiting_delete, running_delete, aborted_ops, delete_merged, delete_by}
 use Rattle.esr_core.specs.Ids.{Law}
-use Rattle.esr_core.specs.Entry.{CloneOf, Clone, DeleteSnapshots, Restore, Cleanup, Given, GivenShard, GivenFinalize, GivenDrop, GivenRestore, GivenClone, GivenDelete, GivenCleanup, Why, Read, ReadBlob, RestoredShard, ReadFails, Prune, Step, AskStep, CommitStep, LatestStep, ReadStep, PruneStep, DepotFault, Reply, WasDone, WasFetched, WasAbsent, WasReplaced, HasEnded, Refused, Moment}
+use Rattle.esr_core.specs.Entry.{Given, GivenShard, GivenFinalize, GivenDrop, GivenRestore, GivenClone, GivenDelete, GivenCleanup, Why, Read, ReadBlob, RestoredShard, ReadFails, Prune, Step, CommitStep, LatestStep, ReadStep, PruneStep, DepotFault, Reply, WasDone, WasFetched, WasAbsent, WasReplaced, HasEnded, Refused, Moment}
 use Rattle.esr_core.specs.After.{asked_op, cloned_op, taken_by, taken_shard, taken_restore, taken_restore_shard, with_given, change, committing, fetching, told_blob, settled_of, delete_settled, delete_failed_by, delete_failed, done_of, done_by, is_stale, failed_by, failed_of, dropped_of, read_told, shard_over, read_over, is_latest, test_left, blobs_in, after}
 use Rattle.esr_core.specs.Allowed as allowed
-use Rattle.esr_core.specs.Allowed.{latest_text, Told, SameBlobs, Adds, Gives, Commits, Raises, Settles, IsOwnTest, MayPlan, SettlesDeletion, RestoreAllows, OpeningRestore, NotListed, NamedByDelete, FullOfRestores, CloneAllows, OpeningClone, CloneUsed, SourceNotListed, SourceDeleted, IndexMissing, FullOfClones, CloneSpent, CloneFault, DeleteAllows, GoingInto, NotNamed, CloneStands, RestoreStands, FullOfOps, DeleteFault, CleanupAllows, OpeningCleanup, OpStands, TicketStands, CleanupFault, ReadAllows, ReadFound, ReadMissing, ReadFault, RestoringShard, ReaderFailing, CheckingAll, CheckFailing, VerifyAllows, DrawingTest, TestSpent, BeginningTest, BeginTestFails, CommittingTest, TestTaken, CommitTestFails, RemovingTests, RemoveTestsFails, VerifyingAll, VerifyFailing, PruneAllows, FetchingShard, ShardMissing, FetchShardFails, Planning, PlanSpent, SettlingDelete, SettleDeleteStale, SettleDeleteFails, RemovingDoomed, RemoveDoomedFails, EndingDelete, FailingDelete, Allows, Allowed}
+use Rattle.esr_core.specs.Allowed.{latest_text, Told, SameBlobs, Adds, Gives, Commits, Raises, Settles, IsOwnTest, MayPlan, SettlesDeletion, ReadAllows, ReadFound, ReadMissing, RestoringShard, ReaderFailing, VerifyAllows, DrawingTest, TestSpent, BeginningTest, BeginTestFails, CommittingTest, TestTaken, CommitTestFails, RemovingTests, RemoveTestsFails, VerifyingAll, VerifyFailing, PruneAllows, FetchingShard, ShardMissing, FetchShardFails, Planning, PlanSpent, SettlingDelete, SettleDeleteStale, SettleDeleteFails, RemovingDoomed, RemoveDoomedFails, EndingDelete, FailingDelete, Allows, Allowed}
 use Rattle.esr_core.specs.Laws.BlobFrames.{at_was, at_back}
 use Rattle.esr_core.specs.Laws.DeleteAsks.{aborts}
 use Rattle.esr_core.specs.Laws.ShardStates.{out_pending, failed_is, marked_is, given_is, pending_done, up_pending}
@@ -333,8 +333,7 @@ module _ (f : Formats) (tried : ℕ → BlobName → Type 0) (w : World) (shelf 
 
   tests_left : (name : BlobName) (was now : Option Bytes) (blobs : Blobs) → Were f w blobs → IsSpare f tried blobs (test_left w name was now).ops (test_left w name was now).tickets
   tests_left name None (Some bytes) blobs were = kept blobs were
-  tests_left name None None blobs were = kept blobs were
-  tests_left name (Some was) now blobs were = kept blobs were
+  tests_left name was now blobs were = kept blobs were
 
 -- ---- each answer, where the image is told
 
@@ -379,37 +378,6 @@ module _ (f : Formats) (size : ℕ) (tried : ℕ → BlobName → Type 0) (w : W
     | inr put ↦ latest_were f tried w shelf law l x.blobs (latest_text n) named put
   ]))
 
-  asks_restore : (name place : Bytes) (reply : Reply) (image : Option Image) → RestoreAllows f w name reply image → SameBlobs w image → Next 0 (AskStep (Restore name place)) reply image
-  asks_restore name place reply image (OpeningRestore o uuid indices im acc) same = inr (still f tried w shelf law l im same)
-  asks_restore name place reply image (NotListed im none) same = inr (still f tried w shelf law l im same)
-  asks_restore name place reply image (NamedByDelete uuid d im listed named) same = inr (still f tried w shelf law l im same)
-  asks_restore name place reply image (FullOfRestores uuid im listed spared full) same = inr (still f tried w shelf law l im same)
-
-  asks_clone : (source name : Bytes) (names : List Bytes) (time : ℕ) (taken : Option CloneOf) (reply : Reply) (image : Option Image) → CloneAllows f w source name names time taken reply image → SameBlobs w image
-      → Next 0 (AskStep (Clone source name names time taken)) reply image
-  asks_clone source name names time taken reply image (OpeningClone t o im acc) same = inr (opens f tried w shelf law l (cloned_op w name time t) refl (blobs_in im w.blobs) (same_were f tried w shelf law l im same))
-  asks_clone source name names time taken reply image (CloneUsed uuid im clear is) same = inr (still f tried w shelf law l im same)
-  asks_clone source name names time taken reply image (SourceNotListed im may none) same = inr (still f tried w shelf law l im same)
-  asks_clone source name names time taken reply image (SourceDeleted uuid d im may listed named) same = inr (still f tried w shelf law l im same)
-  asks_clone source name names time taken reply image (IndexMissing uuid place im may first) same = inr (still f tried w shelf law l im same)
-  asks_clone source name names time taken reply image (FullOfClones uuid im may full) same = inr (still f tried w shelf law l im same)
-  asks_clone source name names time taken reply image (CloneSpent uuid im may room spent) same = inr (still f tried w shelf law l im same)
-  asks_clone source name names time taken reply image (CloneFault t im acc) same = inl refl
-
-  asks_delete : (names : List Bytes) (reply : Reply) (image : Option Image) → DeleteAllows w names reply → SameBlobs w image → Next 0 (AskStep (DeleteSnapshots names)) reply image
-  asks_delete names reply image (GoingInto acc) same = inr (goes_into f tried w shelf law l names (waiting_delete w) (running_delete w (named_uuids w names)) (blobs_in image w.blobs) (same_were f tried w shelf law l image same))
-  asks_delete names reply image (NotNamed place clear first) same = inr (still f tried w shelf law l image same)
-  asks_delete names reply image (CloneStands o clear named lowest) same = inr (still f tried w shelf law l image same)
-  asks_delete names reply image (RestoreStands o clear named no_clone lowest) same = inr (still f tried w shelf law l image same)
-  asks_delete names reply image (FullOfOps may new full) same = inr (still f tried w shelf law l image same)
-  asks_delete names reply image (DeleteFault acc) same = inl refl
-
-  asks_cleanup : (reply : Reply) (image : Option Image) → CleanupAllows w reply → SameBlobs w image → Next 0 (AskStep Cleanup) reply image
-  asks_cleanup reply image (OpeningCleanup acc) same = inr (still f tried w shelf law l image same)
-  asks_cleanup reply image (OpStands o clear lowest) same = inr (still f tried w shelf law l image same)
-  asks_cleanup reply image (TicketStands k none lowest) same = inr (still f tried w shelf law l image same)
-  asks_cleanup reply image (CleanupFault acc) same = inl refl
-
   read_found : (k : ℕ) (name : BlobName) (image : Option Image) → SameBlobs w image → Next k (ReadStep (ReadBlob name)) WasFetched image
   read_found zero name image same = inr (still f tried w shelf law l image same)
   read_found (suc k) name image same = inr (tells f tried w shelf law l (suc k) name (told_blob f image name) (fin.get w.readers (suc k)) (blobs_in image w.blobs) (same_were f tried w shelf law l image same))
@@ -429,11 +397,9 @@ module _ (f : Formats) (size : ℕ) (tried : ℕ → BlobName → Type 0) (w : W
   reads : (k : ℕ) (read : Read) (reply : Reply) (image : Option Image) → ReadAllows f w k read reply image → SameBlobs w image → Next k (ReadStep read) reply image
   reads k read reply image (ReadFound j name im stored by found) same = read_found j name im same
   reads k read reply image (ReadMissing j name im stored by none) same = read_missing j name im same
-  reads k read reply image (ReadFault j name im stored by) same = inr (still f tried w shelf law l im same)
   reads k read reply image (RestoringShard j files bytes im q out done) same = read_done j files bytes im same
   reads k read reply image (ReaderFailing j why im q out) same = read_failed j why im same
-  reads k read reply image (CheckingAll snapshots blobs im checks) same = inr (still f tried w shelf law l im same)
-  reads k read reply image (CheckFailing why im looked) same = inr (still f tried w shelf law l im same)
+  reads k read reply image other same = inr (still f tried w shelf law l image same)
 
   -- of blobs that a told image has
   at_told : (image : Option Image) (P : Blobs → Type 0) → ((now : Blobs) → P now → Were f w now) → (i : Image) → image ≡ Some i → Told image P → Were f w (blobs_in image w.blobs)
@@ -509,17 +475,16 @@ module _ (f : Formats) (size : ℕ) (tried : ℕ → BlobName → Type 0) (w : W
   spare_by who step reply image mine i told (allowed.Dropping k im c same) = inr (drops f tried w shelf law l k c.may.t c.may.out.there (blobs_in im w.blobs) (same_were f tried w shelf law l im same))
   spare_by who step reply image mine i told (allowed.Electing im room same) = inr (still f tried w shelf law l im same)
   spare_by who step reply image mine i told (allowed.Looking im same) = inr (still f tried w shelf law l im same)
-  spare_by who step reply image mine i told (allowed.AskingRestore name place rep im h same) = asks_restore name place rep im h same
-  spare_by who step reply image mine i told (allowed.AskingClone source name names time taken rep im h same) = asks_clone source name names time taken rep im h same
-  spare_by who step reply image mine i told (allowed.AskingDelete names rep im h same) = asks_delete names rep im h same
-  spare_by who step reply image mine i told (allowed.AskingCleanup rep im h same) = asks_cleanup rep im h same
+  spare_by who step reply image mine i told (allowed.OpeningRestore name place o uuid indices im acc same) = inr (still f tried w shelf law l im same)
+  spare_by who step reply image mine i told (allowed.OpeningClone source name names time o t im acc same) = inr (opens f tried w shelf law l (cloned_op w name time t) refl (blobs_in im w.blobs) (same_were f tried w shelf law l im same))
+  spare_by who step reply image mine i told (allowed.GoingInto names im acc same) =
+      inr (goes_into f tried w shelf law l names (waiting_delete w) (running_delete w (named_uuids w names)) (blobs_in im w.blobs) (same_were f tried w shelf law l im same))
+  spare_by who step reply image mine i told (allowed.OpeningCleanup im acc same) = inr (still f tried w shelf law l im same)
   spare_by who step reply image mine i told (allowed.Reading k read rep im h same) = reads k read rep im h same
   spare_by who step reply image mine i told (allowed.Verifying read rep im h) = verifies read rep im i told h
   spare_by who step reply image mine i told (allowed.Pruning k prune rep im h) = prunes k prune rep im i told h
-  spare_by who step reply image mine i told (allowed.Cleaning c d x im recorded untaken there clean same) = inr (still f tried w shelf law l im same)
-  spare_by who step reply image mine i told (allowed.Used name indices time uuid im clear is same) = inr (still f tried w shelf law l im same)
-  spare_by who step reply image mine i told (allowed.Full name indices time im clear unused full same) = inr (still f tried w shelf law l im same)
-  spare_by who step reply image mine i told (allowed.AskSpent name indices time im clear unused room spent same) = inr (still f tried w shelf law l im same)
+  spare_by who step reply image mine i told (allowed.Ruled command refusal im (allowed.Cleaning c d x recorded untaken there clean) same) = inr (still f tried w shelf law l im same)
+  spare_by who step reply image mine i told (allowed.Ruled command refusal im rule same) = inr (still f tried w shelf law l im same)
   spare_by who step reply image mine i told (allowed.DrawSpent k n im may spent same) = inr (still f tried w shelf law l im same)
   spare_by who step reply image mine i told (allowed.RaiseStale k im may apart same) = inr (still f tried w shelf law l im same)
   spare_by who step reply image mine i told (allowed.SettleStale k n t s im may apart same) = inr (still f tried w shelf law l im same)
@@ -534,11 +499,7 @@ module _ (f : Formats) (size : ℕ) (tried : ℕ → BlobName → Type 0) (w : W
   spare_by who step reply image mine i told (allowed.ReplaceFails k im c named puts) = unreplaced k im c.t c.out.there c.n named puts i told
   spare_by who step reply image mine i told (allowed.FetchFails k name im g same) = inr (still f tried w shelf law l im same)
   spare_by who step reply image mine i told (allowed.ListFails k from im g same) = inr (still f tried w shelf law l im same)
-  spare_by who step reply image mine i told (allowed.AskFails name indices time im acc same) = inl refl
-  spare_by who step reply image mine i told (allowed.RaiseFails k im r same) = inl refl
-  spare_by who step reply image mine i told (allowed.SettleFails k im s same) = inl refl
-  spare_by who step reply image mine i told (allowed.DropFails k im c same) = inl refl
-  spare_by who step reply image mine i told (allowed.ElectFails im room same) = inl refl
+  spare_by who step reply image mine i told other = inl refl
 
   pub step_spare : (m : Moment) → ((name : BlobName) → m.entry.step ≡ CommitStep name → MayLeave m.entry.reply → tried m.entry.who name) → (i : Image) → m.image ≡ Some i → Allowed f size w m
       → ((after f w m).deposed ≡ true) ⊎ Spare f tried (after f w m)

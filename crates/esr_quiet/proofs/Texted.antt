@@ -3,17 +3,17 @@ use Rattle.std.proofs.Common.{◌≡◌, ℕ, zero, suc, Bool, true, false, List
 use Rattle.std.specs.Prelude.{if◌then◌else◌}
 use Rattle.std.specs.FinMap as fin
 use Rattle.std.proofs.lemmas.Option.{same_Some}
-use Rattle.esr_model.specs.Names.{BlobName, Root, Latest, Snap, Meta, IndexMeta, ShardSnap, ShardIndex, File, Part, TestMaster, TestNode}
+use Rattle.esr_model.specs.Names.{BlobName, File, Part}
 use Rattle.esr_model.specs.Values.{Bytes, Has, FileEntry, RootData, Formats}
 use Rattle.esr_model.specs.Parts.{part_names}
-use Rattle.esr_model.specs.Reach.{Reached, ReachSnap, ReachMeta, ReachIndexMeta, ReachIndex, ReachShardSnap, ReachPart}
+use Rattle.esr_model.specs.Reach.{Reached, ReachPart}
 use Rattle.esr_model.specs.Image.{Blobs, Image, At}
 use Rattle.esr_core.specs.World.{World, Reader, Caller, no_caller, Opened, OpenedEmpty, OpenedRecord}
 use Rattle.esr_core.specs.Restores.{IsTestOf, IsPiece}
 use Rattle.esr_core.specs.Entry.{Why, Read, ReadBlob, RestoredShard, CommitTest, ReadFails, Step, AskStep, LookStep, ReadStep, Reply, WasDone, WasFetched, WasAbsent, HasEnded, DepotFault, Refused, Moment}
 use Rattle.esr_core.specs.After.{is_heard, caller_told, caller_wrote, caller_read, caller_by, caller_after}
 use Rattle.esr_core.specs.Allowed as allowed
-use Rattle.esr_core.specs.Allowed.{MayRead, MayVerify, InReach, Fetcher, ByReader, ByCheck, ByVerify, SameBlobs, IsOwnTest, ReadAllows, ReadFound, ReadMissing, ReadFault, RestoringShard, ReaderFailing, CheckingAll, CheckFailing, VerifyAllows, DrawingTest, TestSpent, BeginningTest, BeginTestFails, CommittingTest, TestTaken, CommitTestFails, RemovingTests, RemoveTestsFails, VerifyingAll, VerifyFailing, Allows}
+use Rattle.esr_core.specs.Allowed.{MayRead, MayVerify, InReach, Fetcher, ByReader, ByCheck, ByVerify, SameBlobs, IsOwnTest, ReadAllows, ReadFound, ReadMissing, ReadFault, RestoringShard, ReaderFailing, VerifyAllows, DrawingTest, CommittingTest, VerifyingAll, VerifyFailing, Allows}
 use Rattle.esr_core.specs.Laws.Asides.{blocked_stays}
 use Rattle.esr_core.specs.Laws.PartNames.{in_parts}
 use Rattle.esr_names.specs.IdText.{id_text}
@@ -34,25 +34,13 @@ part_no_test : (i k : ℕ) (e : FileEntry) (name : BlobName) (v : ℕ) → Has (
 part_no_test i k e name v part test = elim (in_parts i k e name part) [ inl is ↦ subst (IsTestOf v) is test | inr is ↦ subst (IsTestOf v) is.1 test ]
 
 reached_no_test : (f : Formats) (has : BlobName → Bytes → Type 0) (root : RootData) (v : ℕ) (name : BlobName) → Reached f has root name → IsTestOf v name → ⊥
-reached_no_test f has root v name (ReachSnap s listed) test = test
-reached_no_test f has root v name (ReachMeta s listed) test = test
-reached_no_test f has root v name (ReachIndexMeta x u listed of) test = test
-reached_no_test f has root v name (ReachIndex i k g gen) test = test
-reached_no_test f has root v name (ReachShardSnap i k g s held l gen reads listed of same) test = test
 reached_no_test f has root v name (ReachPart i k g held e piece gen reads listed part) test = part_no_test i k e piece v part test
+reached_no_test f has root v name other test = test
 
 piece_no_test : (i n v : ℕ) (name : BlobName) → IsPiece i n name → IsTestOf v name → ⊥
-piece_no_test i n v (Root m) piece test = piece
-piece_no_test i n v Latest piece test = piece
-piece_no_test i n v (Snap u) piece test = piece
-piece_no_test i n v (Meta u) piece test = piece
-piece_no_test i n v (IndexMeta j u) piece test = piece
-piece_no_test i n v (ShardSnap j k u) piece test = piece
-piece_no_test i n v (ShardIndex j k g) piece test = piece
 piece_no_test i n v (File j k x) piece test = test
 piece_no_test i n v (Part j k x p) piece test = test
-piece_no_test i n v (TestMaster u) piece test = piece
-piece_no_test i n v (TestNode u m) piece test = piece
+piece_no_test i n v name piece test = piece
 
 reader_no_test : (f : Formats) (q : Reader) (name : BlobName) (image : Image) (v : ℕ) → MayRead f q name (Some image) → IsTestOf v name → ⊥
 reader_no_test f q name image v may test = elim may [ inl is ↦ subst (IsTestOf v) is test | inr piece ↦ piece_no_test q.index q.number v name piece.0 test ]
@@ -135,8 +123,7 @@ module _ (f : Formats) (size : ℕ) (w : World) (free : Free f w) (h : IsTexted 
   reads_texted k read reply image i told same (ReadFault j name im stored by) = fault_texted j name im
   reads_texted k read reply image i told same (RestoringShard j files bytes im q out done) = restored_texted j files bytes im
   reads_texted k read reply image i told same (ReaderFailing j why im q out) = failed_texted j why im
-  reads_texted k read reply image i told same (CheckingAll snapshots blobs im checks) = none_texted None
-  reads_texted k read reply image i told same (CheckFailing why im looked) = none_texted None
+  reads_texted k read reply image i told same other = none_texted None
 
   -- an id is drawn where nothing was written yet
   drawn_texted : (id : ℕ) → w.caller.drawn ≡ None → Texted (Some id) w.caller.committed w.caller.wrote w.caller.read
@@ -168,16 +155,10 @@ module _ (f : Formats) (size : ℕ) (w : World) (free : Free f w) (h : IsTexted 
 
   verifies_texted : (read : Read) (reply : Reply) (image : Option Image) → AddsText w (ReadStep read) reply (caller_read f w.caller read reply image) → VerifyAllows f w read reply image → IsTexted (caller_read f w.caller read reply image)
   verifies_texted read reply image adds (DrawingTest im idle fits same) = drawn_texted w.next_id idle.undrawn
-  verifies_texted read reply image adds (TestSpent im idle spent same) = h
-  verifies_texted read reply image adds (BeginningTest name im own same) = h
-  verifies_texted read reply image adds (BeginTestFails name im own same) = h
   verifies_texted read reply image adds (CommittingTest name bytes im own new told) = commits_texted name im own adds
-  verifies_texted read reply image adds (TestTaken name im own there) = h
-  verifies_texted read reply image adds (CommitTestFails name bytes im own leaves) = h
-  verifies_texted read reply image adds (RemovingTests names im may left) = h
-  verifies_texted read reply image adds (RemoveTestsFails names im may left) = h
   verifies_texted read reply image adds (VerifyingAll im done same) = none_texted None
   verifies_texted read reply image adds (VerifyFailing why im begun same) = none_texted None
+  verifies_texted read reply image adds other = h
 
   by_read : (who : ℕ) (read : Read) (reply : Reply) (image : Option Image) (i : Image) → image ≡ Some i → AddsText w (ReadStep read) reply (caller_by f w.caller who read reply image) → Allows f size w who (ReadStep read) reply image
       → IsTexted (caller_by f w.caller who read reply image)

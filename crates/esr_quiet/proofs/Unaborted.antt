@@ -10,7 +10,7 @@ use Rattle.esr_core.specs.Turns.{cleaning_ticket}
 use Rattle.esr_core.specs.Entry.{Asked, Given, GivenShard, GivenFinalize, GivenDrop, GivenRestore, GivenClone, GivenDelete, GivenCleanup, Step, AskStep, TakeStep, Refusal, DepotFault, Reply, Gave, Refused, Moment}
 use Rattle.esr_core.specs.After.{taken_by, taken_shard, taken_restore, taken_restore_shard, answered, after}
 use Rattle.esr_core.specs.Allowed.{Gives, GivesShard, Blocks, ByFailedSwap, ByDelete, Allowed}
-use Rattle.esr_core.specs.Changes.{IsAsk, SameUnit, SameOps, AsBefore, OneAnew, StepChange, NoChange, NewOp, NewDeletion, MergedDeletion, NewRestore, NewTicket, NewReader, OwnTicket, Settlement, UnitEnd, DeletionFailure, OpDrop, Election, ReaderFetch, ReaderEnd, PlainDraw, TestBlob, SwapFault}
+use Rattle.esr_core.specs.Changes.{IsAsk, SameUnit, StepChange, NewOp, NewDeletion, MergedDeletion, NewTicket, OwnTicket, Settlement, UnitEnd, DeletionFailure, OpDrop, SwapFault}
 use Rattle.esr_core.specs.Laws.ChangeLaws.{settled_unit, change_of}
 use Rattle.esr_core.specs.Laws.TakeAnswers.{take_gave}
 use Rattle.esr_desk.specs.Start.{Start, formats_of, world_of, or_no_ticket}
@@ -93,30 +93,19 @@ module _ (was now : Ops) (on : GoOn was now) (tickets : Tickets) (h : AreUnabort
 -- ---- each step
 
 module _ (f : Formats) (w : World) (h : AreUnabortedIn w) where
-  anew : (now : Ops) → SameOps w.ops now → GoOn w.ops now
-  anew now AsBefore = ops_same w.ops
-  anew now (OneAnew o op v there same) = ops_put w.ops o op v there same.aborted
-
   -- but for a take
   kept : (who : ℕ) (step : Step) (new : World) → StepChange f w who step new → (IsAsk step → NoneOutIn w.tickets) → (IsTake step → ⊥) → AreUnabortedIn new
-  kept who step new NoChange none no_take = h
   kept who step new (NewOp ask op completed next_id is above) none no_take = none_out (fin.insert w.ops w.next_op op) w.tickets (none ask)
   kept who step new (NewDeletion ask ops x aborts clean) none no_take = none_out ops w.tickets (none ask)
   kept who step new (MergedDeletion ask ops d x v aborts there clean failed) none no_take = none_out ops w.tickets (none ask)
-  kept who step new (NewRestore ask r) none no_take = h
   kept who step new (NewTicket take t is ops same) none no_take = absurd (no_take (subst IsTake (sym take) tt))
-  kept who step new (NewReader take o r s there) none no_take = h
   kept who step new (OwnTicket t v there unit settled next_id pending id_above above) none no_take = goes_on w.ops w.ops (ops_same w.ops) w.tickets h who t v there unit
   kept who step new (Settlement is t s n names deletes there swapped raised left) none no_take = goes_on w.ops (fin.remove w.ops t.op) (ops_less w.ops t.op) w.tickets h who t (record t { settled = true }) there (settled_unit t)
   kept who step new (UnitEnd t op v completed there op_there same) none no_take = ends w.ops (fin.insert w.ops t.op v) (ops_put w.ops t.op op v op_there same.aborted) w.tickets h who t
   kept who step new (DeletionFailure t x there found) none no_take = ends w.ops w.ops (ops_same w.ops) w.tickets h who t
   kept who step new (OpDrop is t there) none no_take = ends w.ops (fin.remove w.ops t.op) (ops_less w.ops t.op) w.tickets h who t
-  kept who step new (Election is) none no_take = h
-  kept who step new (ReaderFetch q name bytes there) none no_take = h
-  kept who step new (ReaderEnd q r state there found) none no_take = h
-  kept who step new (PlainDraw next_id pending id_above above) none no_take = h
-  kept who step new (TestBlob name is) none no_take = h
   kept who step new (SwapFault e up change) none no_take = kept who step up change none no_take
+  kept who step new other none no_take = h
 
   -- a take: the op of a shard or a finalization was not aborted, and a delete is no op
   module _ (apart : (o : ℕ) (op : Op) (x : Deletion) → fin.get w.ops o ≡ Some op → fin.get w.deletes o ≡ Some x → ⊥) where
@@ -148,7 +137,6 @@ module _ (f : Formats) (w : World) (h : AreUnabortedIn w) where
     take : (who : ℕ) (reply : Reply) (image : Option Image) → ((k o : ℕ) (unit : Given) → reply ≡ Gave k o unit → Gives f w o unit) → AreUnabortedIn (answered f w who TakeStep reply image)
     take who (Gave k o unit) image given = gives o unit (given k o unit refl)
     take who (Refused DepotFault) image given = h
-    take who (Refused refusal) image given = h
     take who reply image given = h
 
     by_step : (who : ℕ) (step : Step) (reply : Reply) (image : Option Image) → ((k o : ℕ) (unit : Given) → reply ≡ Gave k o unit → Gives f w o unit) → (IsAsk step → NoneOutIn w.tickets)

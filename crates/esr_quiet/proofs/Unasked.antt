@@ -7,7 +7,7 @@ use Rattle.esr_model.specs.Kept.{first_id}
 use Rattle.esr_model.specs.Image.{Image}
 use Rattle.esr_model.specs.Lists.{Has-left}
 use Rattle.esr_core.specs.World.{World, ReadState, Restored, NotRestored, Restoring, Reader, Opened, OpenedEmpty, OpenedRecord}
-use Rattle.esr_core.specs.Entry.{Restore, GivenRestore, Read, ReadBlob, RestoredShard, CheckedAll, DrawTest, CommitTest, ReadFails, Step, AskStep, TakeStep, ReadStep, DepotFault, Reply, Gave, DrawnFrom, WasDone, WasFetched, Refused, Moment}
+use Rattle.esr_core.specs.Entry.{Restore, GivenRestore, Read, ReadBlob, RestoredShard, DrawTest, CommitTest, ReadFails, Step, AskStep, TakeStep, ReadStep, DepotFault, Reply, Gave, DrawnFrom, WasDone, WasFetched, Refused, Moment}
 use Rattle.esr_core.specs.After.{taken_restore, told_blob, read_told, read_over, read_step, read_by, test_left, faulted, answered, after}
 use Rattle.esr_core.specs.Allowed.{Allowed}
 use Rattle.esr_core.specs.History.{world_from, IsLegal}
@@ -50,9 +50,7 @@ none_given w n o index number (Some r) is = absurd (nothing w.restores o r n.res
 
 none_read : (f : Formats) (w : World) → HasNone w → (k : ℕ) (read : Read) (reply : Reply) (image : Option Image) → HasNone (read_step f w k read reply image)
 none_read f w n k (ReadBlob name) WasFetched image = none_told w n k name (told_blob f image name) (fin.get w.readers k) refl
-none_read f w n k (ReadBlob name) reply image = n
 none_read f w n k (RestoredShard files bytes) reply image = none_over w n k (Restored files bytes) (fin.get w.readers k) refl
-none_read f w n k (CheckedAll snapshots blobs) reply image = n
 none_read f w n k (ReadFails why) reply image = none_over w n k (NotRestored why) (fin.get w.readers k) refl
 none_read f w n k read reply image = n
 
@@ -64,8 +62,7 @@ none_read_by f w n (suc k) read reply image = none_read f w n (suc k) read reply
 
 none_left : (w : World) → HasNone w → (name : BlobName) (was now : Option Bytes) → HasNone (test_left w name was now)
 none_left w n name None (Some bytes) = record { restores = n.restores; readers = n.readers }
-none_left w n name None None = n
-none_left w n name (Some was) now = n
+none_left w n name was now = n
 
 none_fault : (f : Formats) (w : World) → HasNone w → (k : ℕ) (read : Read) (image : Option Image) → HasNone (faulted f w k (ReadStep read) image)
 none_fault f w n k (CommitTest name) image = none_left w n name (fin.get w.blobs (f.names.text name)) (told_blob f image name)

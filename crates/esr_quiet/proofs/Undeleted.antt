@@ -6,7 +6,7 @@ use Rattle.esr_model.specs.Names.{BlobName, ShardIndex}
 use Rattle.esr_model.specs.Values.{Has, Formats}
 use Rattle.esr_model.specs.Image.{Image}
 use Rattle.esr_core.specs.World.{World, Ticket}
-use Rattle.esr_core.specs.Entry.{Reason, Why, OfDepot, OfSource, OfChange, OfAbsence, OfUnreadable, OfAhead, OfTaken, OfAbort, OfIdsSpent, OfGenerationsSpent, OfTarget, OfPrint, OfDisagreement, FetchShard, PruneStep, IdsSpent, GenerationsSpent, WasAbsent, Moment}
+use Rattle.esr_core.specs.Entry.{Reason, Why, OfDepot, OfAbsence, OfUnreadable, OfTaken, OfIdsSpent, OfGenerationsSpent, OfPrint, OfDisagreement, FetchShard, PruneStep, IdsSpent, GenerationsSpent, WasAbsent, Moment}
 use Rattle.esr_core.specs.Allowed.{Told, FetchesShard, FailsDeletion, Allowed}
 use Rattle.esr_formats.specs.Reasons.{unreadable, unreadable_reads_not}
 use Rattle.esr_desk.specs.declared.hand.Hand.TheVariants as hands
@@ -78,15 +78,7 @@ module _ (s : Start) (log : List Moment) (lawful : IsLawful s log) (alive : IsAl
   undamaged e (OfUnreadable name reason) b damage h = let x = read_shown b _ h in unread name x.0 reason x.1
   undamaged e (OfPrint name stated_len stated_digest found_len found_digest) b damage h = h
   undamaged e (OfDisagreement name other) b damage h = h
-  undamaged e OfDepot b damage h = damage
-  undamaged e OfSource b damage h = damage
-  undamaged e (OfChange first_len first_digest second_len second_digest) b damage h = damage
-  undamaged e (OfAhead name id) b damage h = damage
-  undamaged e (OfTaken name) b damage h = damage
-  undamaged e (OfAbort by) b damage h = damage
-  undamaged e (OfIdsSpent next) b damage h = damage
-  undamaged e (OfGenerationsSpent pending) b damage h = damage
-  undamaged e OfTarget b damage h = damage
+  undamaged e why b damage h = damage
 
 -- so none is reported but by a stale ticket
 pub none_damaged : {S F H T : Type 0} (s : Start) (log : List Moment) → IsLawful s log → (e : Evidence S F H T) (faults : List (Fault S F H T)) → AreCaused hands.Delete e s log faults → NoDeleteFindsDamage s log
@@ -115,13 +107,7 @@ module _ (s : Start) (log : List Moment) (smooth : IsSmooth s log) (prefixes : P
     shows e (OfTaken name) b h = untaken s log smooth prefixes front back is who name (step_shown b _ h)
     shows e (OfIdsSpent next) b h = unspent s log smooth prefixes front back is who (IdsSpent next) tt (step_shown b _ h)
     shows e (OfGenerationsSpent pending) b h = unspent s log smooth prefixes front back is who (GenerationsSpent pending) tt (step_shown b _ h)
-    shows e (OfAbort by) b h = h
-    shows e OfSource b h = h
-    shows e (OfChange first_len first_digest second_len second_digest) b h = h
-    shows e (OfAhead name id) b h = h
-    shows e OfTarget b h = h
-    shows e (OfPrint name stated_len stated_digest found_len found_digest) b h = h
-    shows e (OfDisagreement name other) b h = h
+    shows e why b h = h
 
   pub none_undeleted : {S F H T : Type 0} (e : Evidence S F H T) (faults : List (Fault S F H T)) → AreCaused hands.Delete e s log faults → NoneUndeleted s log
   none_undeleted e faults shown front back m why is step reply =

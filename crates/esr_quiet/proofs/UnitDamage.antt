@@ -11,7 +11,7 @@ use Rattle.esr_core.specs.World.{World, Shard, Ticket}
 use Rattle.esr_core.specs.Ready.{IsShard}
 use Rattle.esr_core.specs.Steps.{IsOut, IsToFetch}
 use Rattle.esr_core.specs.Ids.{Law}
-use Rattle.esr_core.specs.Entry.{Reason, Why, OfDepot, OfSource, OfChange, OfAbsence, OfUnreadable, OfAhead, OfTaken, OfAbort, OfIdsSpent, OfGenerationsSpent, OfTarget, OfPrint, OfDisagreement, FetchStep, WasAbsent, Moment}
+use Rattle.esr_core.specs.Entry.{Reason, Why, OfAbsence, OfUnreadable, OfPrint, OfDisagreement, FetchStep, WasAbsent, Moment}
 use Rattle.esr_core.specs.Laws.CloneSources.{SourceStands, source_stands}
 use Rattle.esr_formats.specs.Reasons.{IsUnreadable, unreadable_reads_not}
 use Rattle.esr_desk.specs.declared.hand.Hand.TheVariants as hands
@@ -91,15 +91,7 @@ module _ (s : Start) (log : List Moment) (lawful : IsLawful s log) (alive : IsAl
   undamaged e front back is who out (OfUnreadable name reason) b damage h = let x = read_shown b _ h in unread front back is who out name x.0 reason x.1
   undamaged e front back is who out (OfPrint name stated_len stated_digest found_len found_digest) b damage h = h
   undamaged e front back is who out (OfDisagreement name other) b damage h = h
-  undamaged e front back is who out OfDepot b damage h = damage
-  undamaged e front back is who out OfSource b damage h = damage
-  undamaged e front back is who out (OfChange first_len first_digest second_len second_digest) b damage h = damage
-  undamaged e front back is who out (OfAhead name id) b damage h = damage
-  undamaged e front back is who out (OfTaken name) b damage h = damage
-  undamaged e front back is who out (OfAbort by) b damage h = damage
-  undamaged e front back is who out (OfIdsSpent next) b damage h = damage
-  undamaged e front back is who out (OfGenerationsSpent pending) b damage h = damage
-  undamaged e front back is who out OfTarget b damage h = damage
+  undamaged e front back is who out why b damage h = damage
 
 -- so none is reported
 pub none_damaged : {S F H T : Type 0} (s : Start) (log : List Moment) → IsLawful s log → (e : Evidence S F H T) (faults : List (Fault S F H T)) → AreCaused hands.Unit e s log faults → NoUnitFindsDamage log

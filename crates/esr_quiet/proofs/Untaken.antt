@@ -85,7 +85,6 @@ opened_numbered f image w (OpenedRecord cluster text root is reads of_root) = re
 made_of : (reply : Reply) → MayLeave reply → WasMade reply
 made_of WasDone left place e = cc
 made_of (Refused DepotFault) left place e = cc
-made_of (Refused refusal) left place e = absurd left
 made_of reply left place e = absurd left
 
 -- a moment of it stands before another one, is that, or stands after it

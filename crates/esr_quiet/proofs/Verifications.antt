@@ -6,7 +6,7 @@ use Rattle.esr_model.specs.Names.{BlobName}
 use Rattle.esr_model.specs.Values.{Bytes, Has, Formats}
 use Rattle.esr_core.specs.World.{World, Caller}
 use Rattle.esr_core.specs.Restores.{IsTestOf, WasRead}
-use Rattle.esr_core.specs.Entry.{Why, OfDepot, OfSource, OfChange, OfAbsence, OfUnreadable, OfAhead, OfTaken, OfAbort, OfIdsSpent, OfGenerationsSpent, OfTarget, OfPrint, OfDisagreement, ReadBlob, DrawTest, Step, ReadStep, IdsSpent, NameTaken, Reply, DrawnFrom, WasAbsent, DepotFault, Refused, Moment}
+use Rattle.esr_core.specs.Entry.{Why, OfDepot, OfAbsence, OfUnreadable, OfTaken, OfIdsSpent, OfPrint, ReadBlob, DrawTest, Step, ReadStep, IdsSpent, NameTaken, Reply, DrawnFrom, WasAbsent, DepotFault, Refused, Moment}
 use Rattle.esr_core.specs.Allowed.{MayVerify}
 use Rattle.esr_names.specs.IdText.{id_text}
 use Rattle.esr_model.specs.Lists.{Has-left}
@@ -24,7 +24,7 @@ use Rattle.esr_quiet.specs.PrefixLaws.{place_of, quiet_at, legal_at}
 use Rattle.esr_quiet.proofs.Prefixes.{told_at}
 use Rattle.esr_quiet.proofs.Failures.{read_shown, step_shown, no_depot_fault}
 use Rattle.esr_quiet.proofs.Restores.{missed_at}
-use Rattle.esr_quiet.specs.RuleLaws.{never_rule}
+use Rattle.esr_core.specs.Laws.Rules.{never_rule}
 use Rattle.esr_quiet.proofs.Rules.{ruled_at}
 use Rattle.esr_quiet.proofs.Texted.{by_verify, IsTexted, texted_at}
 
@@ -111,16 +111,10 @@ module _ (s : Start) (log : List Moment) (smooth : IsSmooth s log) (prefixes : P
   shows e front back is OfDepot b h = no_depot_fault e s smooth.quiet (HadRefusalIn front (caller_of s front) DepotFault) b h
   shows e front back is (OfAbsence name) b h = absent front back is name (read_shown b _ h)
   shows e front back is (OfUnreadable name reason) b h = other front back is name (read_shown b _ h).0
-  shows e front back is (OfAhead name id) b h = h
   shows e front back is (OfPrint name stated_len stated_digest found_len found_digest) b h = printed front back is name stated_len stated_digest found_len found_digest (read_shown b _ h)
   shows e front back is (OfTaken name) b h = let x = step_shown b _ h in untaken front back is (caller_of s front) x.0 name x.1
   shows e front back is (OfIdsSpent next) b h = unspent front back is (caller_of s front) next (step_shown b _ h)
-  shows e front back is (OfAbort op) b h = h
-  shows e front back is OfSource b h = h
-  shows e front back is (OfChange first_len first_digest second_len second_digest) b h = h
-  shows e front back is (OfGenerationsSpent pending) b h = h
-  shows e front back is OfTarget b h = h
-  shows e front back is (OfDisagreement name other) b h = h
+  shows e front back is why b h = h
 
   pub none_unverified : {S F H T : Type 0} (e : Evidence S F H T) (faults : List (Fault S F H T)) → AreVerifyCaused e s log faults → NoneUnverified log
   none_unverified e faults shown m why has who step reply =

@@ -26,7 +26,6 @@ tells f size w who step reply image a = tt
 -- a refusal tells nothing
 refused_tells : (f : Formats) (w : World) (who : ℕ) (step : Step) (refusal : Refusal) (image : Option Image) → Tells f w who step (Refused refusal) image
 refused_tells f w who (PruneStep (FetchShard name)) refusal image = tt
-refused_tells f w who (PruneStep (DeleteFails why)) refusal image = tt
 refused_tells f w who step refusal image = tt
 
 pub told_by : (f : Formats) (size : ℕ) (w : World) (m : Moment) → w.deposed ≡ false → Allowed f size w m → Tells f w m.entry.who m.entry.step m.entry.reply m.image

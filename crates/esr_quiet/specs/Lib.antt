@@ -2,7 +2,6 @@ pub mod Free
 pub mod Asked
 pub mod Smooth
 pub mod Refusals
-pub mod RuleLaws
 pub mod Numbers
 pub mod Asking
 pub mod Prefixes

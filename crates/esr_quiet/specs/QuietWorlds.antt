@@ -6,10 +6,9 @@ use Rattle.std.specs.Prelude.{if◌then◌else◌, ◌==◌, ◌&&◌}
 use Rattle.std.specs.FinMap as fin
 use Rattle.esr_core.specs.Laws.NumberMaps.{some_none, nothing, was_in, left_in}
 use Rattle.esr_model.specs.Names.{BlobName}
-use Rattle.esr_model.specs.Values.{Bytes, Has, IndexRef, ShardResult, SnapInfo, Formats}
-use Rattle.esr_model.specs.Shelf.{Command}
+use Rattle.esr_model.specs.Values.{Bytes, Has, IndexRef, ShardResult, Formats}
 use Rattle.esr_model.specs.Image.{Image}
-use Rattle.esr_core.specs.World.{Op, World, Deletion, ShardWork, ShardState, Pending, Out, Done, GivenUp, Work, Shard, Finalize, Deleting, Drop, Swap, Ticket, ReadState, Restored, NotRestored, RestoreShard, Restoring, Reader, swap, marked, marked_by, kept_deletes, numbered_deletes, Opened, OpenedEmpty, OpenedRecord}
+use Rattle.esr_core.specs.World.{Op, World, Deletion, ShardWork, ShardState, Out, Done, GivenUp, Work, Shard, Deleting, Drop, Swap, Ticket, ReadState, Restored, NotRestored, RestoreShard, Restoring, Reader, swap, marked, marked_by, kept_deletes, numbered_deletes, Opened, OpenedEmpty, OpenedRecord}
 use Rattle.esr_core.specs.Steps.{noting, listing, given, shard_ticket, final_ticket, plain_ticket}
 use Rattle.esr_core.specs.Allowed.{Allowed}
 use Rattle.esr_core.specs.After.{asked, asked_op, cloned_op, known_id, ref_by, next_by, refs_from, pending_shards, all_pending, taken_shard, taken_restore_shard, taken_restore, taken_by, read_told, shard_over, read_over, read_step, read_by, shard_of, with_given, committing, told_blob, fetching, settled_by, settled_of, done_by, done_of, is_stale, failed_by, failed_of, dropped_of, cleanup_opened, delete_settled_by, delete_settled, delete_failed_by, delete_failed, prune_step, done_step, answered, after}
@@ -19,7 +18,7 @@ use Rattle.esr_model.specs.Lists.{Has-mapped, Has-either}
 use Rattle.esr_core.specs.Deletes.{named_uuids, waiting_delete, running_delete, aborted_ops, with_named, delete_merged, delete_by}
 use Rattle.esr_core.specs.Pruning.{planned_work, planned}
 use Rattle.esr_core.specs.Turns.{Aborts, cleaning_ticket, fails, fails_by}
-use Rattle.esr_core.specs.Entry.{AskedIndex, Snapshot, Clone, CloneOf, DeleteSnapshots, Restore, Cleanup, Given, GivenShard, GivenClone, GivenFinalize, GivenDrop, GivenRestore, Read, ReadBlob, RestoredShard, CheckedAll, DrawTest, CommitTest, ReadFails, Step, AskStep, TakeStep, DrawStep, CommitStep, LatestStep, FetchStep, ListStep, RaiseStep, SettleStep, DoneStep, FailedStep, FinishStep, DroppedStep, ElectStep, ReadStep, DepotFault, Reply, Gave, DrawnFrom, WasDone, WasThere, WasFetched, WasListed, Refused, AcceptedRestore, Moment, GivenDelete, GivenCleanup, Prune, FetchShard, PlanShards, SettlePruned, RemoveDoomed, EndDelete, DeleteFails, PruneStep}
+use Rattle.esr_core.specs.Entry.{AskedIndex, Snapshot, Clone, CloneOf, DeleteSnapshots, Restore, Cleanup, Given, GivenShard, GivenClone, GivenFinalize, GivenDrop, GivenRestore, Read, ReadBlob, RestoredShard, DrawTest, CommitTest, ReadFails, Step, AskStep, TakeStep, DrawStep, CommitStep, LatestStep, FetchStep, ListStep, RaiseStep, SettleStep, DoneStep, FailedStep, FinishStep, DroppedStep, ElectStep, ReadStep, DepotFault, Reply, Gave, DrawnFrom, WasDone, WasThere, WasFetched, WasListed, Refused, AcceptedRestore, Moment, GivenDelete, GivenCleanup, Prune, FetchShard, PlanShards, SettlePruned, RemoveDoomed, EndDelete, DeleteFails, PruneStep}
 use Rattle.esr_core.specs.History.{world_from, IsLegal}
 use Rattle.esr_core.specs.Laws.DeleteAsks.{aborts}
 use Rattle.esr_core.specs.Laws.Asides.{blocked_stays}
@@ -120,18 +119,14 @@ same_marked k new z = go z.state
   where
     go : (state : ShardState) → IsSame z (marked_by k new z state)
     go (Out j) = same_either (j == k) new z
-    go Pending = record { place = refl; name = refl; number = refl }
-    go (Done r) = record { place = refl; name = refl; number = refl }
-    go GivenUp = record { place = refl; name = refl; number = refl }
+    go state = record { place = refl; name = refl; number = refl }
 
 same_fails : (k : ℕ) (z : ShardWork) → IsSame z (fails k z)
 same_fails k z = go z.state
   where
     go : (state : ShardState) → IsSame z (fails_by k z state)
     go (Out j) = same_either (j == k) GivenUp z
-    go Pending = record { place = refl; name = refl; number = refl }
-    go (Done r) = record { place = refl; name = refl; number = refl }
-    go GivenUp = record { place = refl; name = refl; number = refl }
+    go state = record { place = refl; name = refl; number = refl }
 
 same_steady : (s : Start) (source : Option ℕ) (a b : ShardWork) → IsSame a b → IsOfSteady s source a → IsOfSteady s source b
 same_steady s None a b same steady = (λ j. s.steady (same.place j) (same.name j) (same.number j)) ∙ steady
@@ -221,12 +216,6 @@ module _ (s : Start) (asks : Type 0) where
       go later rest true is = inl (same_Some x z is)
       go later rest false is = inr (rest is)
 
-  delete_shard : (uuids : List ℕ) (plan : Option Swap) (index number : ℕ) → Deleting uuids plan ≡ Shard index number → ⊥
-  delete_shard uuids plan index number e = cc
-
-  final_shard : (info : SnapInfo) (results : List ShardResult) (made : Command) (index number : ℕ) → Finalize info results made ≡ Shard index number → ⊥
-  final_shard info results made index number e = cc
-
   drop_shard : (index number : ℕ) → Drop ≡ Shard index number → ⊥
   drop_shard index number e = cc
 
@@ -257,24 +246,22 @@ module _ (s : Start) (asks : Type 0) where
 
   quiet_taken : (f : Formats) (w : World) → IsQuiet s asks w → (o : ℕ) (unit : Given) (op : Option Op) → fin.get w.ops o ≡ op → IsQuiet s asks (taken_by f w o unit op)
   quiet_taken f w q o (GivenShard index number base) (Some op) there = quiet_shard w q o op base there (shard_of op.shards index number) (λ z e. found_in op.shards index number z e)
-  quiet_taken f w q o (GivenShard index number base) None there = q
   quiet_taken f w q o (GivenClone index number source base) (Some op) there = quiet_shard w q o op base there (shard_of op.shards index number) (λ z e. found_in op.shards index number z e)
-  quiet_taken f w q o (GivenClone index number source base) None there = q
   quiet_taken f w q o (GivenFinalize info results) (Some op) there =
       record {
         present = q.present;
         cleanups = q.cleanups;
         ops = q.ops;
-        tickets = put_fine s w.tickets w.next_ticket (final_ticket f w o op results) (record { steady = λ i n e. absurd (final_shard _ _ _ i n e) }) q.tickets;
+        tickets = put_fine s w.tickets w.next_ticket (final_ticket f w o op results) (record { steady = λ i n e. absurd cc }) q.tickets;
       }
-  quiet_taken f w q o (GivenFinalize info results) None there = q
   quiet_taken f w q o GivenDrop op there =
       record { present = q.present; cleanups = q.cleanups; ops = q.ops; tickets = put_fine s w.tickets w.next_ticket _ (record { steady = λ i n e. absurd (drop_shard i n e) }) q.tickets }
   quiet_taken f w q o (GivenRestore index number uuid) op there = quiet_restore w q o index number (fin.get w.restores o)
   quiet_taken f w q o (GivenDelete uuids) op there =
-      record { present = q.present; cleanups = q.cleanups; ops = q.ops; tickets = put_fine s w.tickets w.next_ticket (plain_ticket w o (Deleting uuids None)) (record { steady = λ i n e. absurd (delete_shard uuids None i n e) }) q.tickets }
+      record { present = q.present; cleanups = q.cleanups; ops = q.ops; tickets = put_fine s w.tickets w.next_ticket (plain_ticket w o (Deleting uuids None)) (record { steady = λ i n e. absurd cc }) q.tickets }
   quiet_taken f w q o GivenCleanup op there =
-      record { present = q.present; cleanups = q.cleanups; ops = q.ops; tickets = put_fine s w.tickets w.next_ticket (cleaning_ticket w o) (record { steady = λ i n e. absurd (delete_shard [] None i n e) }) q.tickets }
+      record { present = q.present; cleanups = q.cleanups; ops = q.ops; tickets = put_fine s w.tickets w.next_ticket (cleaning_ticket w o) (record { steady = λ i n e. absurd cc }) q.tickets }
+  quiet_taken f w q o unit op there = q
 
   quiet_drawn : (w : World) → IsQuiet s asks w → (k n : ℕ) (o : Option Ticket) → fin.get w.tickets k ≡ o → IsQuiet s asks (record (with_given w k (λ t. record t { first = w.next_id; drawn = n }) o) { next_id = w.next_id + n })
   quiet_drawn w q k n o there = let x = quiet_change w q k (λ t. record t { first = w.next_id; drawn = n }) (λ t h. h) o there in record { present = x.present; cleanups = x.cleanups; ops = x.ops; tickets = x.tickets }
@@ -288,8 +275,7 @@ module _ (s : Start) (asks : Type 0) where
   quiet_settled_by : (f : Formats) (w : World) → IsQuiet s asks w → (k : ℕ) (t : Ticket) → fin.get w.tickets k ≡ Some t → (change : Option Swap) (n : Option ℕ) → IsQuiet s asks (settled_by f w k t change n)
   quiet_settled_by f w q k t there (Some change) (Some n) =
       record { present = q.present; cleanups = left_cleanups asks w.deletes t.op q.cleanups; ops = removed_steady w.ops t.op q.ops; tickets = put_fine s w.tickets k (record t { settled = true }) (q.tickets k t there) q.tickets }
-  quiet_settled_by f w q k t there (Some change) None = q
-  quiet_settled_by f w q k t there None n = q
+  quiet_settled_by f w q k t there change n = q
 
   quiet_settled : (f : Formats) (w : World) → IsQuiet s asks w → (k : ℕ) (o : Option Ticket) → fin.get w.tickets k ≡ o → IsQuiet s asks (settled_of f w k o)
   quiet_settled f w q k None there = q
@@ -359,9 +345,7 @@ module _ (s : Start) (asks : Type 0) where
 
   quiet_read : (f : Formats) (w : World) → IsQuiet s asks w → (k : ℕ) (read : Read) (reply : Reply) (image : Option Image) → IsQuiet s asks (read_step f w k read reply image)
   quiet_read f w q k (ReadBlob name) WasFetched image = quiet_told w q k name (told_blob f image name) (fin.get w.readers k)
-  quiet_read f w q k (ReadBlob name) reply image = q
   quiet_read f w q k (RestoredShard files bytes) reply image = quiet_over w q k (Restored files bytes) (fin.get w.readers k)
-  quiet_read f w q k (CheckedAll snapshots blobs) reply image = q
   quiet_read f w q k (ReadFails why) reply image = quiet_over w q k (NotRestored why) (fin.get w.readers k)
   quiet_read f w q k read reply image = q
 
@@ -404,9 +388,7 @@ module _ (s : Start) (asks : Type 0) where
   -- a plan is of no shard
   planned_shard : (f : Formats) (t : Ticket) (shards : List PrunedShard) (first : ℕ) (work : Work) (index number : ℕ) → planned_work f t shards first work ≡ Shard index number → work ≡ Shard index number
   planned_shard f t shards first (Deleting uuids plan) index number e = absurd (cc)
-  planned_shard f t shards first (Shard i n) index number e = e
-  planned_shard f t shards first (Finalize info results made) index number e = e
-  planned_shard f t shards first Drop index number e = e
+  planned_shard f t shards first work index number e = e
 
   fine_planned : (f : Formats) (shards : List PrunedShard) (first : ℕ) (t : Ticket) → IsFine s t → IsFine s (planned f shards first t)
   fine_planned f shards first t h = record { steady = λ index number e. h.steady index number (planned_shard f t shards first t.work index number e) }
@@ -414,8 +396,7 @@ module _ (s : Start) (asks : Type 0) where
   quiet_deleted_by : (f : Formats) (w : World) → IsQuiet s asks w → (k : ℕ) (t : Ticket) → fin.get w.tickets k ≡ Some t → (change : Option Swap) (n : Option ℕ) → IsQuiet s asks (delete_settled_by f w k t change n)
   quiet_deleted_by f w q k t there (Some change) (Some n) =
       record { present = q.present; cleanups = settled_cleanups asks w.deletes t.op t.clean q.cleanups; ops = removed_steady w.ops t.op q.ops; tickets = put_fine s w.tickets k (record t { settled = true }) (q.tickets k t there) q.tickets }
-  quiet_deleted_by f w q k t there (Some change) None = q
-  quiet_deleted_by f w q k t there None n = q
+  quiet_deleted_by f w q k t there change n = q
 
   quiet_deleted : (f : Formats) (w : World) → IsQuiet s asks w → (k : ℕ) (o : Option Ticket) → fin.get w.tickets k ≡ o → IsQuiet s asks (delete_settled f w k o)
   quiet_deleted f w q k None there = q

@@ -1,24 +1,13 @@
 -- One piece of names after another is appended.
-use Rattle.std.proofs.Common.{◌≡◌, ℕ, suc, ◌+◌, ◌<◌, ◌≤◌, Bool, List, [], ◌∷◌, ◌++◌, flat_map, map, length, take, get_or, Option, sym, ap, ◌∙◌, arith, append_assoc}
+use Rattle.std.proofs.Common.{◌≡◌, ℕ, suc, ◌+◌, ◌<◌, Bool, List, [], ◌∷◌, ◌++◌, map, length, take, get_or, Option, sym, ap, ◌∙◌, arith, append_assoc}
 use Rattle.std.proofs.lemmas.List.{append-nil}
-use Rattle.esr_model.specs.Loops.{next, all}
+use Rattle.esr_model.specs.Loops.{next}
 use Rattle.esr_names.specs.declared.blob.BlobName.{BlobName as CodeName}
-use Rattle.esr_formats.specs.Names.{name_of}
 use Rattle.esr_model.specs.Names.{BlobName}
 use Rattle.esr_reach.specs.Names.{Pushed}
 use Rattle.esr_reach.specs.Held.{HeldShard}
 use Rattle.esr_reach.specs.Listing.{place_names, shards_names}
-use Rattle.esr_reach.specs.NamePieces.{pushed_more, pushed_one, pushed_as}
-
--- ---- pieces
-
-pub pushed_two : (old mid new : List CodeName) (a b : CodeName) → mid ≡ old ++ a ∷ [] → new ≡ mid ++ b ∷ [] → Pushed old new (name_of a ∷ name_of b ∷ [])
-pushed_two old mid new a b first second = pushed_more old mid new (name_of a ∷ []) (name_of b ∷ []) (pushed_one old mid a first) (pushed_one mid new b second)
-
-module _ {A B : Type 0} (f : B → List BlobName) (v : A → B) (xs : List A) (i : ℕ) where
-  -- the pieces of all items
-  pub pushed_all : (first new : List CodeName) → length xs ≤ i → Pushed first new (flat_map f (map v (take i xs))) → Pushed first new (flat_map f (map v xs))
-  pushed_all first new past pushed = pushed_as first new (flat_map f (map v (take i xs))) (flat_map f (map v xs)) (ap (flat_map f) (all v xs i past)) pushed
+use Rattle.esr_reach.specs.NamePieces.{pushed_more, pushed_as}
 
 -- ---- the shards of an index
 

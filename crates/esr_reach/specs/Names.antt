@@ -29,17 +29,8 @@ pub data IsWithout (new : List BlobName) : List BlobName → List BlobName → T
 -- ---- a name of the layout is one name of the code
 
 pub coded : (a : CodeName) → code_name (name_of a) ≡ a
-coded (code.Root n) = refl
-coded code.Latest = refl
-coded (code.Snap u) = refl
-coded (code.Meta u) = refl
-coded (code.IndexMeta i u) = refl
 coded (code.ShardSnap s u) = refl
-coded (code.ShardIndex s g) = refl
-coded (code.Whole s x) = refl
-coded (code.Part s x k) = refl
-coded (code.TestMaster v) = refl
-coded (code.TestNode v w) = refl
+coded a = refl
 
 pub name_one : (a b : CodeName) → name_of a ≡ name_of b → a ≡ b
 name_one a b e = sym (coded a) ∙ ap code_name e ∙ coded b

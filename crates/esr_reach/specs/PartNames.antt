@@ -2,7 +2,6 @@
 use Rattle.std.specs.Prelude.{◌≡◌, ℕ, zero, suc, ◌+◌, ◌-◌, ◌/◌, ◌<◌, ◌≤◌, Bool, true, false, leb, List, [], ◌∷◌, ◌++◌, length, take, if◌then◌else◌}
 use Rattle.std.proofs.Common.{refl, sym, ap, ◌∙◌, subst, inl, inr, arith}
 use Rattle.std.proofs.lemmas.Bool.{cases_Bool}
-use Rattle.std.proofs.lemmas.List.{take_all}
 use Rattle.esr_names.specs.declared.blob.ShardId.{ShardId}
 use Rattle.esr_names.specs.declared.blob.BlobName.TheVariants as code
 use Rattle.esr_shardidx.specs.declared.entry.FileEntry.{FileEntry as CodeEntry}
@@ -22,10 +21,6 @@ length-parts_from : (index shard file first n : ℕ) → length (parts_from inde
 length-parts_from index shard file first zero = refl
 length-parts_from index shard file first (suc n) = ap suc (length-parts_from index shard file (suc first) n)
 
--- the part numbered k from the first on
-abbrev part_at : ℕ → ℕ → ℕ → ℕ → BlobName
-part_at index shard file k = Part index shard file k
-
 from_next : (index shard file first n k : ℕ) → k < n → take (suc k) (parts_from index shard file first n) ≡ take k (parts_from index shard file first n) ++ Part index shard file (first + k) ∷ []
 from_next index shard file first zero k less = absurd (omega arith)
 from_next index shard file first (suc n) zero less = let same : first ≡ first + 0 = omega arith in ap (λ (m : ℕ). Part index shard file m ∷ []) same
@@ -40,9 +35,6 @@ count_same len size some = let same : len + size - 1 ≡ len + (size - 1) = omeg
 module _ (shard : ShardId) (e : CodeEntry) (some : 1 ≤ e.part_size) where
   abbrev names : List BlobName
   names = part_names shard.index.number shard.number (entry_of e)
-
-  abbrev count : ℕ
-  count = code_part_count e.print.len e.part_size
 
   pub length-names : length (part_names shard.index.number shard.number (entry_of e)) ≡ code_part_count e.print.len e.part_size
   length-names = elim (cases_Bool (leb e.print.len e.part_size)) [
@@ -80,7 +72,3 @@ module _ (shard : ShardId) (e : CodeEntry) (some : 1 ≤ e.part_size) where
           ∙ ap (λ (m : ℕ). take k (parts_from shard.index.number shard.number e.name.number 0 n) ++ Part shard.index.number shard.number e.name.number m ∷ []) number
           ∙ ap (λ (xs : List BlobName). take k xs ++ Part shard.index.number shard.number e.name.number k ∷ []) (sym all)
           ∙ ap (λ (x : BlobName). take k (part_names shard.index.number shard.number (entry_of e)) ++ x ∷ []) (sym name)
-
-  -- all of them
-  pub names_all : take (code_part_count e.print.len e.part_size) (part_names shard.index.number shard.number (entry_of e)) ≡ part_names shard.index.number shard.number (entry_of e)
-  names_all = take_all (code_part_count e.print.len e.part_size) (part_names shard.index.number shard.number (entry_of e)) (omega (arith, length-names))

@@ -15,7 +15,7 @@ use Rattle.esr_core.specs.Restores.{IsReading, restore_of, waits, put_restore, h
 use Rattle.esr_core.specs.Entry.{Asked, Restore, LookStep, GivenRestore, Given, Why, Read, ReadBlob, RestoredShard, DrawTest, CommitTest, ReadFails, Step, AskStep, TakeStep, ReadStep, DepotFault, Reply, Gave, DrawnFrom, WasDone, WasFetched, WasAbsent, HasEnded, Refused, AcceptedRestore, Entry, Moment, is_recorded, unrecorded}
 use Rattle.esr_core.specs.After.{told_blob, taken_restore, taken_restore_shard, read_told, shard_over, read_over, read_by, faulted, answered, blobs_in, after, test_left}
 use Rattle.esr_core.specs.Allowed as allowed
-use Rattle.esr_core.specs.Allowed.{GivesRestore, RestoreAllows, OpeningRestore, NotListed, NamedByDelete, FullOfRestores, ReadAllows, ReadFound, ReadMissing, ReadFault, RestoringShard, ReaderFailing, CheckingAll, CheckFailing, Allows, Allowed, VerifyAllows, DrawingTest, TestSpent, BeginningTest, BeginTestFails, CommittingTest, TestTaken, CommitTestFails, RemovingTests, RemoveTestsFails, VerifyingAll, VerifyFailing}
+use Rattle.esr_core.specs.Allowed.{GivesRestore, ReadAllows, ReadFound, ReadMissing, RestoringShard, ReaderFailing, Allows, Allowed, VerifyAllows, DrawingTest, CommittingTest, CommitTestFails}
 use Rattle.esr_core.specs.Causes.{TakeGave, RestoreBegan}
 use Rattle.esr_core.specs.History.{world_from, IsLegal}
 use Rattle.esr_core.specs.Tracked.{Tracked}
@@ -60,12 +60,6 @@ makes_aside w new blobs caller entries (MakesMore k q name bytes there a b c) = 
 makes_aside w new blobs caller entries (MakesEnd k q r state q_there there over a b c) = MakesEnd k q r state q_there there over a b c
 
 module _ (f : Formats) (size : ℕ) (w : World) (t : Tracked w) where
-  asks : (name place : Bytes) (reply : Reply) (image : Option Image) → RestoreAllows f w name reply image → Makes w (answered f w 0 (AskStep (Restore name place)) reply image)
-  asks name place reply image (OpeningRestore o uuid indices im acc) = MakesRestore uuid place indices refl refl refl
-  asks name place reply image (NotListed im none) = makes_same w
-  asks name place reply image (NamedByDelete uuid d im listed named) = makes_same w
-  asks name place reply image (FullOfRestores uuid im listed spared full) = makes_same w
-
   gives : (o index number uuid : ℕ) (g : GivesRestore w o index number uuid) → Makes w (taken_restore w o index number (fin.get w.restores o))
   gives o index number uuid g =
       subst (λ x. Makes w (taken_restore w o index number x)) (sym g.ready.there)
@@ -103,33 +97,24 @@ module _ (f : Formats) (size : ℕ) (w : World) (t : Tracked w) where
   reads : (k : ℕ) (read : Read) (reply : Reply) (image : Option Image) → ReadAllows f w k read reply image → Makes w (answered f w k (ReadStep read) reply image)
   reads k read reply image (ReadFound j name im stored by there) = found j name im
   reads k read reply image (ReadMissing j name im stored by none) = missed j name im
-  reads k read reply image (ReadFault j name im stored by) = makes_same w
   reads k read reply image (RestoringShard j files bytes im q out by) = done j files bytes im
   reads k read reply image (ReaderFailing j why im q out) = failed j why im
-  reads k read reply image (CheckingAll snapshots blobs im checks) = makes_same w
-  reads k read reply image (CheckFailing why im looked) = makes_same w
+  reads k read reply image other = makes_same w
 
   left_by : (name : BlobName) (was now : Option Bytes) → Makes w (test_left w name was now)
   left_by name None (Some bytes) = MakesNothing refl refl (omega arith)
-  left_by name None None = makes_same w
-  left_by name (Some was) now = makes_same w
+  left_by name was now = makes_same w
 
   verifies : (read : Read) (reply : Reply) (image : Option Image) → VerifyAllows f w read reply image → Makes w (answered f w 0 (ReadStep read) reply image)
   verifies read reply image (DrawingTest im idle fits same) = MakesNothing refl refl (omega arith)
-  verifies read reply image (TestSpent im idle spent same) = makes_same w
-  verifies read reply image (BeginningTest name im own same) = makes_same w
-  verifies read reply image (BeginTestFails name im own same) = makes_same w
   verifies read reply image (CommittingTest name bytes im own new adds) = MakesNothing refl refl (omega arith)
-  verifies read reply image (TestTaken name im own there) = makes_same w
   verifies read reply image (CommitTestFails name bytes im own leaves) = left_by name (fin.get w.blobs (f.names.text name)) (told_blob f im name)
-  verifies read reply image (RemovingTests names im may left) = makes_same w
-  verifies read reply image (RemoveTestsFails names im may left) = makes_same w
-  verifies read reply image (VerifyingAll im all same) = makes_same w
-  verifies read reply image (VerifyFailing why im begun same) = makes_same w
+  verifies read reply image other = makes_same w
 
   restore_asked : (who : ℕ) (name place : Bytes) (reply : Reply) (image : Option Image) → Allows f size w who (AskStep (Restore name place)) reply image → Makes w (answered f w who (AskStep (Restore name place)) reply image)
-  restore_asked who name place reply image (allowed.AskingRestore n p rep im h same) = asks n p rep im h
-  restore_asked who name place reply image (allowed.Cleaning command d x im recorded untaken there clean same) = absurd (true≢false (sym recorded))
+  restore_asked who name place reply image (allowed.OpeningRestore n at o uuid indices im acc same) = MakesRestore uuid at indices refl refl refl
+  restore_asked who name place reply image (allowed.Ruled command refusal im (allowed.NotListed n at none) same) = makes_same w
+  restore_asked who name place reply image (allowed.Ruled command refusal im rule same) = makes_same w
 
   reading : (who : ℕ) (read : Read) (reply : Reply) (image : Option Image) → Allows f size w who (ReadStep read) reply image → Makes w (answered f w who (ReadStep read) reply image)
   reading who read reply image (allowed.Reading k r rep im h same) = reads k r rep im h
@@ -494,20 +479,14 @@ ops_rise laws f size w (m ∷ log) t legal =
 
 -- ---- what lines ask for leaves the tickets
 
-restore_leaves : (f : Formats) (w : World) (name place : Bytes) (reply : Reply) (image : Option Image) → RestoreAllows f w name reply image → (answered f w 0 (AskStep (Restore name place)) reply image).readers ≡ w.readers
-restore_leaves f w name place reply image (OpeningRestore o uuid indices im acc) = refl
-restore_leaves f w name place reply image (NotListed im none) = refl
-restore_leaves f w name place reply image (NamedByDelete uuid d im listed named) = refl
-restore_leaves f w name place reply image (FullOfRestores uuid im listed spared full) = refl
-
 module _ (f : Formats) (size : ℕ) (w : World) (t : Tracked w) where
   room_now : w.next_id ≤ first_id (suc w.term)
   room_now = let b : w.next_id < first_id (suc w.term) = t.in_term.below in omega (arith, b)
 
   restore_asked_leaves : (who : ℕ) (name place : Bytes) (reply : Reply) (image : Option Image) → Allows f size w who (AskStep (Restore name place)) reply image
       → (answered f w who (AskStep (Restore name place)) reply image).readers ≡ w.readers
-  restore_asked_leaves who name place reply image (allowed.AskingRestore n p rep im h same) = restore_leaves f w n p rep im h
-  restore_asked_leaves who name place reply image (allowed.Cleaning command d x im recorded untaken there clean same) = absurd (true≢false (sym recorded))
+  restore_asked_leaves who name place reply image (allowed.Ruled command refusal im (allowed.NotListed n at none) same) = refl
+  restore_asked_leaves who name place reply image other = refl
 
   asked_leaves : (who : ℕ) (command : Asked) (reply : Reply) (image : Option Image) → Allows f size w who (AskStep command) reply image → (answered f w who (AskStep command) reply image).readers ≡ w.readers
   asked_leaves who command reply image a = by (is_recorded command) refl
@@ -535,8 +514,7 @@ look_leaves f size w m t a e = ap (λ x. (answered f w m.entry.who x m.entry.rep
 module _ (f : Formats) (w : World) where
   test_readers : (name : BlobName) (was now : Option Bytes) → (test_left w name was now).readers ≡ w.readers
   test_readers name None (Some bytes) = refl
-  test_readers name None None = refl
-  test_readers name (Some was) now = refl
+  test_readers name was now = refl
 
   fault_readers : (read : Read) (image : Option Image) → (faulted f w 0 (ReadStep read) image).readers ≡ w.readers
   fault_readers (CommitTest name) image = test_readers name (fin.get w.blobs (f.names.text name)) (told_blob f image name)

@@ -5,12 +5,23 @@ use esr_names::{Id, Ids, IndexRefs, SnapName, indices_copy};
 use std::alloc::{AllocError, Global};
 
 /// The snapshot that an op makes: its indices in the command's order, its moment, name and uuid.
-#[derive(Drop)]
 pub struct Making {
     pub indices: IndexRefs,
     pub moment: u64,
     pub name: SnapName,
     pub uuid: Id,
+}
+
+impl Drop for Making {
+    // Not derived: each crate above would prove a derived one again.
+    fn drop(self) {
+        let Making {
+            indices: _indices,
+            moment: _,
+            name: _name,
+            uuid: _,
+        } = self;
+    }
 }
 
 /// What an op does.
@@ -27,10 +38,16 @@ pub enum OpWork {
 }
 
 /// An open op, by its number.
-#[derive(Drop)]
 pub struct RecordOp {
     pub op: u64,
     pub work: OpWork,
+}
+
+impl Drop for RecordOp {
+    // Not derived: each crate above would prove a derived one again.
+    fn drop(self) {
+        let RecordOp { op: _, work: _work } = self;
+    }
 }
 
 impl Making {

@@ -6,7 +6,7 @@ use crate::ClusterRecord;
 use thiserror::Error;
 
 /// Why a record refused a swap.
-#[derive(Clone, Copy, Debug, PartialEq, Eq, Error)]
+#[derive(Clone, Copy, Debug, Error)]
 pub enum RecordRefusal {
     /// The term is no longer the caller's own.
     #[error("term {own} is over, now it is {now}")]

@@ -228,8 +228,7 @@ idles_doomed w doomed =
 
 idles_left : (w : World) (name : BlobName) (was now : Option Bytes) → Idles w (test_left w name was now)
 idles_left w name None (Some bytes) = idles_doomed w (name ∷ w.doomed)
-idles_left w name None None = idles_same w
-idles_left w name (Some was) now = idles_same w
+idles_left w name was now = idles_same w
 
 idles_committed : (f : Formats) (w : World) (k : ℕ) (step : Step) (name : BlobName) (image : Option Image) → IsCommit step name → Idles w (answered f w k step WasDone image)
 idles_committed f w k (CommitStep it) name image h = idles_change w k (committing it (told_blob f image it)) (seat_committing it (told_blob f image it))

@@ -5,7 +5,7 @@ use Rattle.std.specs.Ordering.{nat_cmp}
 use Rattle.std.specs.FinMap.{FinMap}
 use Rattle.std.specs.FinMap as fin
 use Rattle.std.proofs.lemmas.Option.{same_Some, none-some}
-use Rattle.esr_core.specs.World.{World, Op, Ticket, Work, Shard, Finalize, Deleting, Drop}
+use Rattle.esr_core.specs.World.{World, Op, Ticket, Work, Finalize, Drop}
 use Rattle.esr_core.specs.Entry.{Step, FailedStep, Refused}
 use Rattle.esr_core.specs.Allowed.{IsFailure, IsAborted}
 use Rattle.esr_ops.specs.Plan.{Plan, kind_of, seat_of, seat_out, IsPlanOf}
@@ -26,10 +26,9 @@ picks false x kept = refl
 picks true x kept = absurd (true≢false kept)
 
 takes_none : (work : Work) → work ≢ Drop → is_drop (kind_of work) ≡ false
-takes_none (Shard index number) other = refl
 takes_none (Finalize info results made) other = refl
-takes_none (Deleting uuids plan) other = refl
 takes_none Drop other = absurd (other refl)
+takes_none work other = refl
 
 no_failure : (step : Step) → is_failure step ≡ false → IsFailure step → ⊥
 no_failure (FailedStep why) is h = absurd (true≢false is)

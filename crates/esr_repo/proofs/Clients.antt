@@ -32,7 +32,6 @@ told_up c d (ReadStep (BeginTest name)) g h = g.drawn h
 told_up c d (ReadStep (CommitTest name)) g h = g.drawn h
 told_up c d (ReadStep (RemoveTests names)) g h = λ name has. g.drawn (h name has)
 told_up c d (ReadStep (ReadBlob name)) g h = λ id test. g.drawn (h id test)
-told_up c d (ReadStep read) g h = tt
 told_up c d step g h = tt
 
 grows_told : (c : Caller) (name : BlobName) (bytes : Option Bytes) → Grows c (caller_told c name bytes)
@@ -126,8 +125,7 @@ module _ (f : Formats) (size : ℕ) (w : World) (of_ops : AreOfOps w) (h : Tells
   by_verify read reply image (allowed.CommitTestFails name bytes im own left) = has_drawn own.id own.drawn
   by_verify read reply image (allowed.RemovingTests names im may gone) = λ name has. h.committed name (may.committed name has)
   by_verify read reply image (allowed.RemoveTestsFails names im may less) = λ name has. h.committed name (may.committed name has)
-  by_verify read reply image (allowed.VerifyingAll im all same) = tt
-  by_verify read reply image (allowed.VerifyFailing why im verifying same) = tt
+  by_verify read reply image other = tt
 
   by_read : (read : Read) (reply : Reply) (image : Option Image) → ReadsOwn w.caller 0 (ReadStep read) → ReadAllows f w 0 read reply image → TellsRead (caller_read f w.caller read reply image) read
   by_read read reply image own (allowed.ReadFound k name im stored fetcher told) = told_up w.caller (caller_told w.caller name (told_blob f image name)) (ReadStep (ReadBlob name)) (grows_told w.caller name (told_blob f image name)) (own refl)
@@ -219,18 +217,9 @@ own_step f size w m who of_ops a own h =
       where
         by_read : (read : Read) → caller_read f w.caller read (Refused (DeposedAt place)) m.image ≡ w.caller
         by_read (ReadBlob name) = refl
-        by_read (RestoredShard files bytes) = refl
-        by_read (CheckedAll snapshots blobs) = refl
-        by_read DrawTest = refl
-        by_read (CommitTest name) = refl
-        by_read (RemoveTests names) = refl
-        by_read VerifiedAll = refl
-        by_read (ReadFails why) = refl
         by_read read = refl
 
         go : (step : Step) → caller_after f w.caller 0 step (Refused (DeposedAt place)) m.image ≡ w.caller
-        go (AskStep command) = refl
-        go LookStep = refl
         go (ReadStep read) = by_read read
         go step = refl
     uncounted reply is = absurd cc

@@ -6,7 +6,7 @@ use Rattle.std.specs.FinMap as fin
 use Rattle.std.proofs.lemmas.Option.{same_Some}
 use Rattle.esr_model.specs.Values.{Has, Formats}
 use Rattle.esr_model.specs.Delete.{PrunedShard, left_uuids, uuids_of, deleted_root}
-use Rattle.esr_core.specs.World.{Op, Work, Shard, Finalize, Deleting, Drop, Swap, Ticket}
+use Rattle.esr_core.specs.World.{Op, Work, Deleting, Swap, Ticket}
 use Rattle.esr_core.specs.Pruning.{delete_swap, planned_work, planned}
 use Rattle.esr_core.specs.Turns.{Aborts}
 use Rattle.esr_core.specs.Laws.Maps.{get_was, get_left}
@@ -79,9 +79,7 @@ come_planned f b tickets k t shards first there = come_put b tickets k (planned 
         let same : us ≡ uuids = uuids_same us uuids (Some (delete_swap f t.clean t.root t.read us shards first)) plan e in
         let new : plan ≡ Some (delete_swap f t.clean t.root t.read us shards first) = plan_same us uuids (Some (delete_swap f t.clean t.root t.read us shards first)) plan e in
         HasPlanned t p there (is ∙ ap (λ (x : List ℕ). Deleting x p) same) refl refl (λ s q. planned_is f t us uuids shards first s same (same_Some s (delete_swap f t.clean t.root t.read us shards first) (sym q ∙ new)))
-    by_work (Shard index number) is uuids plan e = absurd (cc)
-    by_work (Finalize info results made) is uuids plan e = absurd (cc)
-    by_work Drop is uuids plan e = absurd (cc)
+    by_work work is uuids plan e = absurd (cc)
 
 -- ---- open ops
 

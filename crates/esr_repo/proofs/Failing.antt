@@ -2,12 +2,12 @@
 use Rattle.std.proofs.Common.{◌≡◌, ℕ, ◌+◌, ◌-◌, ◌^◌, ◌≤◌, Bool, true, false, true≢false, cond, List, [], ◌∷◌, ◌++◌, length, Option, Some, None, Err, refl, sym, ap, ◌∙◌, subst, inl, inr, arith, append-nil, append_assoc}
 use Rattle.std.specs.Prelude.{min}
 use Rattle.std.proofs.lemmas.List.Sums.{sum_by_push}
-use Rattle.esr_model.specs.Values.{Bytes, Formats}
+use Rattle.esr_model.specs.Values.{Formats}
 use Rattle.esr_model.specs.Image.{Image}
 use Rattle.esr_core.specs.World.{World}
-use Rattle.esr_core.specs.Entry.{CloneOf, Read, Prune, Step, Reply, Refused, DeposedAt, DepotFault, Entry, Moment}
+use Rattle.esr_core.specs.Entry.{Read, Prune, Step, Reply, Refused, DeposedAt, DepotFault, Entry, Moment}
 use Rattle.esr_core.specs.After.{swaps_record}
-use Rattle.esr_core.specs.Allowed.{DeleteAllows, CleanupAllows, CloneAllows, RestoreAllows, VerifyAllows, ReadAllows, PruneAllows, Allows}
+use Rattle.esr_core.specs.Allowed.{VerifyAllows, ReadAllows, PruneAllows, Allows}
 use Rattle.esr_core.specs.Allowed as allowed
 use Rattle.esr_depot.specs.declared.error.CallError.{CallError}
 use Rattle.esr_depot.specs.declared.error.CallError.TheVariants.{Failed}
@@ -95,19 +95,6 @@ pub told_none : (reply : Reply) → is_refused reply ≡ false → tells_none re
 told_none (Refused refusal) h = absurd (true≢false h)
 told_none reply h = refl
 
-delete_never : (w : World) (names : List Bytes) (place : ℕ) → DeleteAllows w names (Refused (DeposedAt place)) → ⊥
-delete_never w names place h = elim h [ ]
-
-cleanup_never : (w : World) (place : ℕ) → CleanupAllows w (Refused (DeposedAt place)) → ⊥
-cleanup_never w place h = elim h [ ]
-
-clone_never : (f : Formats) (w : World) (source name : Bytes) (names : List Bytes) (moment : ℕ) (taken : Option CloneOf) (place : ℕ) (image : Option Image) → CloneAllows f w source name names moment taken (Refused (DeposedAt place)) image
-    → ⊥
-clone_never f w source name names moment taken place image h = elim h [ ]
-
-restore_never : (f : Formats) (w : World) (name : Bytes) (place : ℕ) (image : Option Image) → RestoreAllows f w name (Refused (DeposedAt place)) image → ⊥
-restore_never f w name place image h = elim h [ ]
-
 verify_never : (f : Formats) (w : World) (read : Read) (place : ℕ) (image : Option Image) → VerifyAllows f w read (Refused (DeposedAt place)) image → ⊥
 verify_never f w read place image h = elim h [ ]
 
@@ -118,10 +105,7 @@ prune_never : (f : Formats) (w : World) (who : ℕ) (prune : Prune) (place : ℕ
 prune_never f w who prune place image h = elim h [ ]
 
 never_deposed : (f : Formats) (part_size : ℕ) (w : World) (who : ℕ) (step : Step) (place : ℕ) (image : Option Image) → Allows f part_size w who step (Refused (DeposedAt place)) image → ⊥
-never_deposed f part_size w who step place image (allowed.AskingClone source name names moment taken reply im h same) = clone_never f w source name names moment taken place im h
-never_deposed f part_size w who step place image (allowed.AskingDelete names reply im h same) = delete_never w names place h
-never_deposed f part_size w who step place image (allowed.AskingCleanup reply im h same) = cleanup_never w place h
-never_deposed f part_size w who step place image (allowed.AskingRestore name target reply im h same) = restore_never f w name place image h
+never_deposed f part_size w who step place image (allowed.Ruled command refusal im rule same) = elim rule [ ]
 never_deposed f part_size w who step place image (allowed.Verifying read reply im h) = verify_never f w read place image h
 never_deposed f part_size w who step place image (allowed.Reading k read reply im h same) = read_never f w who read place image h
 never_deposed f part_size w who step place image (allowed.Pruning k prune reply im h) = prune_never f w who prune place image h

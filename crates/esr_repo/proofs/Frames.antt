@@ -15,7 +15,7 @@ use Rattle.esr_core.specs.Deletes.{named_uuids, waiting_delete, running_delete, 
 use Rattle.esr_core.specs.Ids.{InTerm}
 use Rattle.esr_core.specs.Steps.{with_ticket, noting, listing, given, completing, shard_ticket, final_ticket, plain_ticket}
 use Rattle.esr_core.specs.Turns.{cleaning_ticket, fails}
-use Rattle.esr_core.specs.Entry.{Asked, Snapshot, Clone, DeleteSnapshots, Restore, Cleanup, Given, GivenShard, GivenFinalize, GivenDrop, GivenRestore, GivenClone, GivenDelete, GivenCleanup, Read, ReadBlob, RestoredShard, CheckedAll, DrawTest, CommitTest, ReadFails, Prune, FetchShard, PlanShards, SettlePruned, RemoveDoomed, EndDelete, DeleteFails, Step, AskStep, TakeStep, DrawStep, BeginStep, CommitStep, LatestStep, FetchStep, ListStep, RaiseStep, SettleStep, DoneStep, FailedStep, FinishStep, DroppedStep, ElectStep, ReadStep, PruneStep, DepotFault, Reply, AcceptedRestore, DrawnFrom, Gave, WasDone, WasThere, WasFetched, WasListed, HasEnded, Refused, Moment}
+use Rattle.esr_core.specs.Entry.{Asked, Snapshot, Clone, DeleteSnapshots, Restore, Cleanup, Given, GivenShard, GivenFinalize, GivenDrop, GivenRestore, GivenClone, GivenDelete, GivenCleanup, Read, ReadBlob, RestoredShard, DrawTest, CommitTest, ReadFails, Prune, FetchShard, PlanShards, SettlePruned, EndDelete, DeleteFails, Step, AskStep, TakeStep, DrawStep, BeginStep, CommitStep, LatestStep, FetchStep, ListStep, RaiseStep, SettleStep, DoneStep, FailedStep, FinishStep, DroppedStep, ElectStep, ReadStep, PruneStep, DepotFault, Reply, AcceptedRestore, DrawnFrom, Gave, WasDone, WasThere, WasFetched, WasListed, HasEnded, Refused, Moment}
 use Rattle.esr_core.specs.After.{asked_op, new_names, cloned_op, asked, taken_shard, taken_restore_shard, taken_restore, taken_by, shard_of, with_given, committing, told_blob, fetching, settled_by, settled_of, done_by, done_of, is_stale, failed_by, failed_of, dropped_of, delete_settled_by, delete_settled, delete_failed_by, delete_failed, prune_step, read_told, shard_over, read_over, read_step, read_by, done_step, swaps_record, has_text, fallen, is_latest, test_left, faulted, answered, stepped}
 use Rattle.esr_core.specs.Laws.DeleteAsks.{aborts}
 use Rattle.esr_repo.specs.Log.{asks_container, calls}
@@ -105,7 +105,6 @@ frame_asked w (Snapshot name indices moment) =
       tickets = le_next w.next_ticket;
       caller = refl;
     }
-frame_asked w (Clone source name indices moment None) = frame_same None w
 frame_asked w (Clone source name indices moment (Some taken)) =
     record {
       come = come_same None w.tickets;
@@ -117,7 +116,7 @@ frame_asked w (Clone source name indices moment (Some taken)) =
     }
 frame_asked w (DeleteSnapshots names) = frame_delete w names
 frame_asked w Cleanup = record { come = come_same None w.tickets; uuids = ops_same w.ops w.next_id; next = λ t. le_refl w.next_id; ops = le_refl (suc w.next_op); tickets = le_next w.next_ticket; caller = refl }
-frame_asked w (Restore name place) = frame_same None w
+frame_asked w command = frame_same None w
 
 -- ---- take
 
@@ -156,15 +155,13 @@ frame_restore w o index number (Some r) = frame_restore_shard w o r (restore_sha
 
 frame_taken : (f : Formats) (w : World) (o : ℕ) (unit : Given) (op : Option Op) → fin.get w.ops o ≡ op → Frame None w (taken_by f w o unit op)
 frame_taken f w o (GivenShard index number base) (Some op) there = frame_shard w o op base (shard_of op.shards index number) there
-frame_taken f w o (GivenShard index number base) None there = frame_same None w
 frame_taken f w o (GivenClone index number source base) (Some op) there = frame_shard w o op base (shard_of op.shards index number) there
-frame_taken f w o (GivenClone index number source base) None there = frame_same None w
 frame_taken f w o (GivenFinalize info results) (Some op) there = frame_given w (final_ticket f w o op results) (come_plain None w.tickets w.next_ticket (final_ticket f w o op results) (final_plain (info_of op results) results (made_of f w.blobs op)))
-frame_taken f w o (GivenFinalize info results) None there = frame_same None w
 frame_taken f w o (GivenRestore index number uuid) op there = frame_restore w o index number (fin.get w.restores o)
 frame_taken f w o GivenDrop op there = frame_given w (plain_ticket w o Drop) (come_plain None w.tickets w.next_ticket (plain_ticket w o Drop) drop_plain)
 frame_taken f w o (GivenDelete uuids) op there = frame_given w (plain_ticket w o (Deleting uuids None)) (come_given None w.tickets w.next_ticket (plain_ticket w o (Deleting uuids None)) uuids refl refl)
 frame_taken f w o GivenCleanup op there = frame_given w (cleaning_ticket w o) (come_given None w.tickets w.next_ticket (cleaning_ticket w o) [] refl refl)
+frame_taken f w o unit op there = frame_same None w
 
 -- ---- steps of a ticket
 
@@ -183,8 +180,7 @@ frame_raised w k o there =
 frame_settled_by : (f : Formats) (w : World) (k : ℕ) (t : Ticket) → fin.get w.tickets k ≡ Some t → (s : Option Swap) (n : Option ℕ) → Frame (Some k) w (settled_by f w k t s n)
 frame_settled_by f w k t there (Some s) (Some n) =
     record { come = come_settled w.tickets k t (record t { settled = true }) there refl refl; uuids = ops_less w.ops t.op w.next_id; next = λ h. le_refl w.next_id; ops = le_next w.next_op; tickets = le_next w.next_ticket; caller = refl }
-frame_settled_by f w k t there (Some s) None = frame_same (Some k) w
-frame_settled_by f w k t there None n = frame_same (Some k) w
+frame_settled_by f w k t there s n = frame_same (Some k) w
 
 pub frame_settled : (f : Formats) (w : World) (k : ℕ) (o : Option Ticket) → fin.get w.tickets k ≡ o → Frame (Some k) w (settled_of f w k o)
 frame_settled f w k None there = frame_same (Some k) w
@@ -257,8 +253,7 @@ frame_planned f w k shards (Some t) there = frame_put None w k (planned f shards
 frame_pruned_by : (f : Formats) (w : World) (k : ℕ) (t : Ticket) → fin.get w.tickets k ≡ Some t → (s : Option Swap) (n : Option ℕ) → Frame (Some k) w (delete_settled_by f w k t s n)
 frame_pruned_by f w k t there (Some s) (Some n) =
     record { come = come_settled w.tickets k t (record t { settled = true }) there refl refl; uuids = ops_less w.ops t.op w.next_id; next = λ h. le_refl w.next_id; ops = le_next w.next_op; tickets = le_next w.next_ticket; caller = refl }
-frame_pruned_by f w k t there (Some s) None = frame_same (Some k) w
-frame_pruned_by f w k t there None n = frame_same (Some k) w
+frame_pruned_by f w k t there s n = frame_same (Some k) w
 
 pub frame_pruned : (f : Formats) (w : World) (k : ℕ) (o : Option Ticket) → fin.get w.tickets k ≡ o → Frame (Some k) w (delete_settled f w k o)
 frame_pruned f w k None there = frame_same (Some k) w
@@ -283,13 +278,12 @@ frame_unpruned w k (Some t) there =
 
 frame_prune : (f : Formats) (w : World) (k : ℕ) (prune : Prune) (reply : Reply) (image : Option Image) → Frame (settler (PruneStep prune) k) w (prune_step f w k prune reply image)
 frame_prune f w k (FetchShard name) WasFetched image = frame_change w k (fetching name (told_blob f image name)) (fin.get w.tickets k) refl (fetching_stays name (told_blob f image name))
-frame_prune f w k (FetchShard name) reply image = frame_same None w
 frame_prune f w k (PlanShards shards) reply image =
     frame_drawn_by w (with_given w k (planned f shards w.next_id) (fin.get w.tickets k)) (kept_count shards) (frame_planned f w k shards (fin.get w.tickets k) refl)
 frame_prune f w k SettlePruned reply image = frame_pruned f w k (fin.get w.tickets k) refl
-frame_prune f w k (RemoveDoomed names) reply image = frame_same None w
 frame_prune f w k EndDelete reply image = frame_change w k (λ t. record t { out = false }) (fin.get w.tickets k) refl (λ t. (refl, refl, refl))
 frame_prune f w k (DeleteFails why) reply image = frame_unpruned w k (fin.get w.tickets k) refl
+frame_prune f w k prune reply image = frame_same None w
 
 -- ---- steps that read
 
@@ -308,9 +302,7 @@ frame_over w k state (Some q) = frame_shard_over w k state q (fin.get w.restores
 
 frame_reading : (f : Formats) (w : World) (k : ℕ) (read : Read) (reply : Reply) (image : Option Image) → Frame None w (read_step f w k read reply image)
 frame_reading f w k (ReadBlob name) WasFetched image = frame_told w k name (told_blob f image name) (fin.get w.readers k)
-frame_reading f w k (ReadBlob name) reply image = frame_same None w
 frame_reading f w k (RestoredShard files bytes) reply image = frame_over w k (Restored files bytes) (fin.get w.readers k)
-frame_reading f w k (CheckedAll snapshots blobs) reply image = frame_same None w
 frame_reading f w k (ReadFails why) reply image = frame_over w k (NotRestored why) (fin.get w.readers k)
 frame_reading f w k read reply image = frame_same None w
 
@@ -366,24 +358,17 @@ frame_fallen s f w up image p =
 
 frame_test : (w : World) (name : BlobName) (was now : Option Bytes) → Frame None w (test_left w name was now)
 frame_test w name None (Some bytes) = frame_doomed w (name ∷ w.doomed)
-frame_test w name None None = frame_same None w
-frame_test w name (Some was) now = frame_same None w
+frame_test w name was now = frame_same None w
 
 frame_prune_fault : (f : Formats) (w : World) (k : ℕ) (prune : Prune) (image : Option Image) → Frame (settler (PruneStep prune) k) w (faulted f w k (PruneStep prune) image)
-frame_prune_fault f w k (FetchShard name) image = frame_same None w
-frame_prune_fault f w k (PlanShards shards) image = frame_same None w
 frame_prune_fault f w k SettlePruned image = frame_fallen (Some k) f w (delete_settled f w k (fin.get w.tickets k)) image (frame_pruned f w k (fin.get w.tickets k) refl)
-frame_prune_fault f w k (RemoveDoomed names) image = frame_same None w
-frame_prune_fault f w k EndDelete image = frame_same None w
-frame_prune_fault f w k (DeleteFails why) image = frame_same None w
+frame_prune_fault f w k prune image = frame_same None w
 
 frame_fault : (f : Formats) (w : World) (k : ℕ) (step : Step) (image : Option Image) → Frame (settler step k) w (faulted f w k step image)
 frame_fault f w k LatestStep image = frame_tried w k
 frame_fault f w k (BeginStep name) image = frame_either None w _ w (is_latest name) (frame_tried w k) (frame_same None w)
-frame_fault f w k (AskStep (Snapshot name indices moment)) image = frame_fallen None f w _ image (frame_step f w k (AskStep (Snapshot name indices moment)) HasEnded image)
-frame_fault f w k (AskStep (Clone source name indices moment taken)) image = frame_fallen None f w (asked w (Clone source name indices moment taken)) image (frame_asked w (Clone source name indices moment taken))
-frame_fault f w k (AskStep (DeleteSnapshots names)) image = frame_fallen None f w (asked_delete w names) image (frame_delete w names)
-frame_fault f w k (AskStep Cleanup) image = frame_fallen None f w (asked w Cleanup) image (frame_asked w Cleanup)
+frame_fault f w k (AskStep (Restore name place)) image = frame_same None w
+frame_fault f w k (AskStep command) image = frame_fallen None f w (done_step f w k (AskStep command) HasEnded image) image (frame_step f w k (AskStep command) HasEnded image)
 frame_fault f w k RaiseStep image = frame_fallen None f w _ image (frame_step f w k RaiseStep HasEnded image)
 frame_fault f w k SettleStep image = frame_fallen (Some k) f w _ image (frame_step f w k SettleStep HasEnded image)
 frame_fault f w k DroppedStep image = frame_fallen None f w _ image (frame_step f w k DroppedStep HasEnded image)
@@ -437,12 +422,9 @@ rests_taken f w o (GivenShard index number base) (Some op) = rests_shard w o op 
 rests_taken f w o (GivenShard index number base) None = rests_same w
 rests_taken f w o (GivenClone index number source base) (Some op) = rests_shard w o op base (shard_of op.shards index number)
 rests_taken f w o (GivenClone index number source base) None = rests_same w
-rests_taken f w o (GivenFinalize info results) (Some op) = record { root = refl; deposed = refl }
 rests_taken f w o (GivenFinalize info results) None = rests_same w
-rests_taken f w o GivenDrop op = record { root = refl; deposed = refl }
 rests_taken f w o (GivenRestore index number uuid) op = rests_restore w o index number (fin.get w.restores o)
-rests_taken f w o (GivenDelete uuids) op = record { root = refl; deposed = refl }
-rests_taken f w o GivenCleanup op = record { root = refl; deposed = refl }
+rests_taken f w o unit op = record { root = refl; deposed = refl }
 
 rests_drawn : (w : World) (k n : ℕ) (g : Ticket → Ticket) (o : Option Ticket) → Rests w (record (with_given w k g o) { next_id = w.next_id + n })
 rests_drawn w k n g None = record { root = refl; deposed = refl }
@@ -479,12 +461,11 @@ rests_delete_failed w k (Some t) =
 
 pub rests_prune : (f : Formats) (w : World) (k : ℕ) (prune : Prune) (reply : Reply) (image : Option Image) → swaps_record (PruneStep prune) ≡ false → Rests w (prune_step f w k prune reply image)
 rests_prune f w k (FetchShard name) WasFetched image e = rests_change w k (fetching name (told_blob f image name)) (fin.get w.tickets k)
-rests_prune f w k (FetchShard name) reply image e = rests_same w
 rests_prune f w k (PlanShards shards) reply image e = rests_drawn w k (kept_count shards) (planned f shards w.next_id) (fin.get w.tickets k)
 rests_prune f w k SettlePruned reply image e = absurd (true≢false e)
-rests_prune f w k (RemoveDoomed names) reply image e = rests_same w
 rests_prune f w k EndDelete reply image e = rests_change w k (λ t. record t { out = false }) (fin.get w.tickets k)
 rests_prune f w k (DeleteFails why) reply image e = rests_delete_failed w k (fin.get w.tickets k)
+rests_prune f w k prune reply image e = rests_same w
 
 rests_told : (w : World) (k : ℕ) (name : BlobName) (bytes : Option Bytes) (q : Option Reader) → Rests w (read_told w k name bytes q)
 rests_told w k name bytes None = rests_same w
@@ -501,9 +482,7 @@ rests_over w k state (Some q) = rests_shard_over w k state q (fin.get w.restores
 
 rests_reading : (f : Formats) (w : World) (k : ℕ) (read : Read) (reply : Reply) (image : Option Image) → Rests w (read_step f w k read reply image)
 rests_reading f w k (ReadBlob name) WasFetched image = rests_told w k name (told_blob f image name) (fin.get w.readers k)
-rests_reading f w k (ReadBlob name) reply image = rests_same w
 rests_reading f w k (RestoredShard files bytes) reply image = rests_over w k (Restored files bytes) (fin.get w.readers k)
-rests_reading f w k (CheckedAll snapshots blobs) reply image = rests_same w
 rests_reading f w k (ReadFails why) reply image = rests_over w k (NotRestored why) (fin.get w.readers k)
 rests_reading f w k read reply image = rests_same w
 
@@ -515,15 +494,12 @@ rests_read f w (suc k) read reply image = rests_reading f w (suc k) read reply i
 
 rests_test : (w : World) (name : BlobName) (was now : Option Bytes) → Rests w (test_left w name was now)
 rests_test w name None (Some bytes) = record { root = refl; deposed = refl }
-rests_test w name None None = rests_same w
-rests_test w name (Some was) now = rests_same w
+rests_test w name was now = rests_same w
 
 rests_step : (f : Formats) (w : World) (k : ℕ) (step : Step) (reply : Reply) (image : Option Image) → swaps_record step ≡ false → Rests w (done_step f w k step reply image)
-rests_step f w k (AskStep (Snapshot name indices moment)) reply image e = absurd (true≢false e)
-rests_step f w k (AskStep (Clone source name indices moment taken)) reply image e = absurd (true≢false e)
-rests_step f w k (AskStep (DeleteSnapshots names)) reply image e = absurd (true≢false e)
-rests_step f w k (AskStep Cleanup) reply image e = absurd (true≢false e)
 rests_step f w k (AskStep (Restore name place)) (AcceptedRestore o uuid indices) image e = record { root = refl; deposed = refl }
+rests_step f w k (AskStep (Restore name place)) reply image e = rests_same w
+rests_step f w k (AskStep command) reply image e = absurd (true≢false e)
 rests_step f w k (ReadStep read) reply image e = rests_read f w k read reply image
 rests_step f w k RaiseStep reply image e = absurd (true≢false e)
 rests_step f w k SettleStep reply image e = absurd (true≢false e)
@@ -545,10 +521,8 @@ rests_step f w k step reply image e = rests_same w
 rests_fault : (f : Formats) (w : World) (k : ℕ) (step : Step) (image : Option Image) → swaps_record step ≡ false → Rests w (faulted f w k step image)
 rests_fault f w k LatestStep image e = rests_change w k (λ t. record t { tried_latest = true }) (fin.get w.tickets k)
 rests_fault f w k (BeginStep name) image e = rests_either w _ w (is_latest name) (rests_change w k (λ t. record t { tried_latest = true }) (fin.get w.tickets k)) (rests_same w)
-rests_fault f w k (AskStep (Snapshot name indices moment)) image e = absurd (true≢false e)
-rests_fault f w k (AskStep (Clone source name indices moment taken)) image e = absurd (true≢false e)
-rests_fault f w k (AskStep (DeleteSnapshots names)) image e = absurd (true≢false e)
-rests_fault f w k (AskStep Cleanup) image e = absurd (true≢false e)
+rests_fault f w k (AskStep (Restore name place)) image e = rests_same w
+rests_fault f w k (AskStep command) image e = absurd (true≢false e)
 rests_fault f w k (ReadStep (CommitTest name)) image e = rests_test w name (fin.get w.blobs (f.names.text name)) (told_blob f image name)
 rests_fault f w k RaiseStep image e = absurd (true≢false e)
 rests_fault f w k SettleStep image e = absurd (true≢false e)

@@ -24,7 +24,7 @@ use Rattle.esr_core.specs.Tracked.{FinalTracked, DeleteTracked, Tracked}
 use Rattle.esr_core.specs.Laws.CleanupReach.{cleaned_was}
 use Rattle.esr_core.specs.Laws.DeleteRoots.{has_names, left_has, renewed_snapshots}
 use Rattle.esr_model.specs.Lists.{Has-append, Has-map}
-use Rattle.esr_core.specs.Laws.DoomNames.{IsDoomed, TheRoot, ASnap, AMeta, AnIndexMeta, AnIndex, AList, APart, doomed_is}
+use Rattle.esr_core.specs.Laws.DoomNames.{IsDoomed, ASnap, APart, doomed_is}
 use Rattle.esr_core.specs.Laws.PartNames.{in_parts}
 use Rattle.esr_meta.specs.Info.{Info}
 use Rattle.esr_core.specs.Laws.Tests.{clash}
@@ -302,13 +302,9 @@ snap_doomed f safe old new uuids read uuid m = go (Snap uuid) (doomed_is f safe 
         part_snap i k x p q = cc
 
     go : (name : BlobName) → IsDoomed f safe old new uuids read name → name ≡ Snap uuid → (snap : RootSnap) × Has old.snapshots snap × (names_uuid uuids snap.uuid ≡ true) × (snap.uuid ≡ uuid)
-    go name (TheRoot n is) e = absurd (cc)
     go name (ASnap s there named) e = (s, there, named, snap_uuid s.uuid uuid e)
-    go name (AMeta s there named) e = absurd (cc)
-    go name (AnIndexMeta x u there has named) e = absurd (cc)
-    go name (AnIndex p is) e = absurd (cc)
-    go name (AList p was l is reads has listed left) e = absurd (cc)
     go name (APart p was file part is reads has fresh in_it) e = absurd (no_part p.index p.number file part in_it e)
+    go name other e = absurd (cc)
 
 -- the root of a cleanup lists what its copy lists
 all_left : (snaps : List RootSnap) → left_snaps [] snaps ≡ snaps

@@ -7,7 +7,7 @@ use Rattle.esr_core.specs.Entry.{Step, AbortedBy, Refusal, Refused, Moment}
 use Rattle.esr_core.specs.After.{after}
 use Rattle.esr_core.specs.Allowed.{Allowed, IsAborted, Blocks, ByDelete}
 use Rattle.esr_core.specs.History.{world_from, IsLegal}
-use Rattle.esr_core.specs.Refusing.{MayRefuse, RefusedSo}
+use Rattle.esr_core.specs.Refusing.{MayRefuse, RefusedSo, ByRule}
 use Rattle.esr_core.specs.ReadTracked.{ReadTracked}
 use Rattle.esr_desk.specs.declared.refusal.EntryRefusal.{EntryRefusal}
 use Rattle.esr_desk.specs.declared.refusal.StepRefusal.TheVariants as steps
@@ -20,6 +20,7 @@ use Rattle.esr_desk.specs.Evidence.{NeverFailed}
 use Rattle.esr_desk.specs.Unquiet.{unquiet_last, quiet_grounds}
 use Rattle.esr_repo.specs.Grown.{world_step}
 use Rattle.esr_repo.specs.Tickets.{AreOfOps}
+use Rattle.esr_core.specs.Laws.Rules.{never_rule}
 
 -- how steps are refused
 abbrev pub Refuses : Type 0
@@ -30,7 +31,7 @@ at f size [] back w m legal = legal.0
 at f size (x ∷ front) back w m legal = at f size front back (after f w x) m legal.1
 
 no_rule : (step : Step) (by : ℕ) → MayRefuse step (AbortedBy by) → ⊥
-no_rule step by h = elim h [ ]
+no_rule step by (ByRule command refusal rule) = never_rule command (AbortedBy by) refl rule
 
 of_block : (w : World) (who : ℕ) (step : Step) (by : ℕ) → Blocks w who step (AbortedBy by) → IsAborted w who step by
 of_block w who step by (ByDelete op alive aborted) = aborted

@@ -10,14 +10,9 @@
 --   infos_stay : v.root ≡ w.root → WorksStay w v → (NoDeleting v → NoDeleting w) → InfosKept f w v infos → AreInfosOf f w tells infos → AreInfosOf f v tells infos
 -- Over a step:
 --   infos_step : Tracked w → AreTests w.caller → SparesInfos f w infos → Allowed f size w m → LeavesInfos m.entry.step m.entry.reply → AreInfosOf f w tells infos → AreInfosOf f (after f w m) tells infos
---   listed_step : Tracked w → LeavesInfos m.entry.step m.entry.reply → AreListed w.root infos → AreListed (after f w m).root infos
 --   root_step, works_step, none_step, blobs_step : what these take of the step
--- Over the settle of the ticket t, whose work is Finalize info results made:
---   infos_settle_step : Tracked w → Allowed f size w m → m.entry.step ≡ SettleStep → m.entry.reply ≡ WasSettled → fin.get w.tickets m.entry.who ≡ Some t → t.work ≡ Finalize info results made
---       → info_of_code i ≡ info → AreApart (map ref_of_code i.indices) → ReadsBack f.info info → AreListed w.root infos → AreInfosOf f w tells infos
---       → AreInfosOf f (after f w m) tells (infos ++ i ∷ []) × AreListed (after f w m).root (infos ++ i ∷ [])
---   infos_settled_of : the same for settled_of f w k (Some t), where t is out, unsettled, of the present term, and has raised n
---   infos_settled, listed_settled : the same for any world in which it HasSettled
+-- Over the settle of a finalization, in any world in which it HasSettled:
+--   infos_settled, listed_settled
 -- What these ask of the info:
 --   final_info : info_of x r ≡ info, for the open op x of the ticket and results r of all its shards
 --   info_apart : IsInfo i → AreApart (map ref_of_code i.indices)
@@ -43,10 +38,10 @@ use Rattle.esr_core.specs.Pruning.{delete_swap, planned_work, planned, dooms}
 use Rattle.esr_core.specs.Restores.{AreApart, restore_shard}
 use Rattle.esr_core.specs.Deletes.{asked_delete}
 use Rattle.esr_core.specs.Tracked.{Named, FinalTracked, Tracked}
-use Rattle.esr_core.specs.Entry.{CloneOf, Snapshot, Restore, Clone, DeleteSnapshots, Cleanup, Given, GivenShard, GivenFinalize, GivenDrop, GivenRestore, GivenClone, GivenDelete, GivenCleanup, Read, ReadBlob, RestoredShard, CheckedAll, DrawTest, CommitTest, ReadFails, Prune, FetchShard, PlanShards, SettlePruned, RemoveDoomed, EndDelete, DeleteFails, Step, AskStep, TakeStep, DrawStep, BeginStep, CommitStep, LatestStep, FetchStep, ListStep, RaiseStep, SettleStep, DoneStep, FailedStep, FinishStep, DroppedStep, ElectStep, ReadStep, PruneStep, DepotFault, Reply, Gave, DrawnFrom, WasDone, WasThere, WasFetched, WasListed, WasSettled, HasEnded, Refused, AcceptedRestore, Moment, Refusal}
+use Rattle.esr_core.specs.Entry.{CloneOf, Snapshot, Restore, Clone, DeleteSnapshots, Cleanup, Given, GivenShard, GivenFinalize, GivenDrop, GivenRestore, GivenClone, GivenDelete, GivenCleanup, Read, ReadBlob, RestoredShard, DrawTest, CommitTest, ReadFails, Prune, FetchShard, PlanShards, SettlePruned, RemoveDoomed, EndDelete, DeleteFails, Step, AskStep, TakeStep, DrawStep, BeginStep, CommitStep, LatestStep, FetchStep, ListStep, RaiseStep, SettleStep, DoneStep, FailedStep, FinishStep, DroppedStep, ElectStep, ReadStep, PruneStep, DepotFault, Reply, Gave, DrawnFrom, WasDone, WasThere, WasFetched, WasListed, HasEnded, Refused, AcceptedRestore, Moment}
 use Rattle.esr_core.specs.After.{asked, taken_shard, taken_by, taken_restore, taken_restore_shard, shard_of, with_given, committing, told_blob, fetching, settled_by, settled_of, done_by, done_of, is_stale, failed_by, failed_of, dropped_of, delete_failed_by, delete_failed, read_told, read_over, shard_over, read_step, read_by, prune_step, done_step, swaps_record, has_text, fallen, is_latest, tried, test_left, faulted, answered, blobs_in, after}
 use Rattle.esr_core.specs.Allowed as allowed
-use Rattle.esr_core.specs.Allowed.{FetchingShard, ShardMissing, FetchShardFails, Planning, PlanSpent, SettlingDelete, SettleDeleteStale, SettleDeleteFails, RemovingDoomed, RemoveDoomedFails, EndingDelete, FailingDelete, PruneAllows, NoDeleting, HaveGenerations, RemovesDoomed, MayRemoveTests, Told, SameBlobs, Adds, WasMade, IsInInfo, AreIndicesIn, Settles, VerifyAllows, Allows, Allowed}
+use Rattle.esr_core.specs.Allowed.{FetchingShard, ShardMissing, FetchShardFails, Planning, PlanSpent, SettlingDelete, SettleDeleteStale, SettleDeleteFails, RemovingDoomed, RemoveDoomedFails, EndingDelete, FailingDelete, PruneAllows, NoDeleting, HaveGenerations, RemovesDoomed, MayRemoveTests, Told, SameBlobs, Adds, WasMade, IsInInfo, AreIndicesIn, VerifyAllows, Allows, Allowed}
 use Rattle.esr_core.specs.Laws.DeleteAsks.{delete_leaves}
 use Rattle.esr_core.specs.Laws.PruneFrames.{SameTickets, prune_stays}
 use Rattle.esr_core.specs.Laws.Maps.{get_same, get_other, get_kept, split, texts_same}
@@ -259,16 +254,14 @@ keeps_restore w o index number (Some r) = keeps_restore_shard w o r (restore_sha
 
 keeps_taken : (f : Formats) (w : World) → AreBelow w → (o : ℕ) (unit : Given) (op : Option Op) → Keeps w (taken_by f w o unit op)
 keeps_taken f w below o (GivenShard index number base) (Some op) = keeps_shard w below o op base (shard_of op.shards index number)
-keeps_taken f w below o (GivenShard index number base) None = keeps_same w
 keeps_taken f w below o (GivenClone index number source base) (Some op) = keeps_shard w below o op base (shard_of op.shards index number)
-keeps_taken f w below o (GivenClone index number source base) None = keeps_same w
 keeps_taken f w below o (GivenFinalize info results) (Some op) = record { root = refl; works = works_more w.tickets w.next_ticket (final_ticket f w o op results) below; none = none_more w.tickets w.next_ticket (final_ticket f w o op results) below }
-keeps_taken f w below o (GivenFinalize info results) None = keeps_same w
 keeps_taken f w below o GivenDrop op = record { root = refl; works = works_more w.tickets w.next_ticket (plain_ticket w o Drop) below; none = none_more w.tickets w.next_ticket (plain_ticket w o Drop) below }
 keeps_taken f w below o (GivenRestore index number uuid) op = keeps_restore w o index number (fin.get w.restores o)
 keeps_taken f w below o (GivenDelete uuids) op =
     record { root = refl; works = works_more w.tickets w.next_ticket (plain_ticket w o (Deleting uuids None)) below; none = none_more w.tickets w.next_ticket (plain_ticket w o (Deleting uuids None)) below }
 keeps_taken f w below o GivenCleanup op = record { root = refl; works = works_more w.tickets w.next_ticket (cleaning_ticket w o) below; none = none_more w.tickets w.next_ticket (cleaning_ticket w o) below }
+keeps_taken f w below o unit op = keeps_same w
 
 -- ---- ends
 
@@ -310,9 +303,7 @@ keeps_over w k state (Some q) = keeps_shard_over w k state q (fin.get w.restores
 
 keeps_read_step : (f : Formats) (w : World) (k : ℕ) (read : Read) (reply : Reply) (image : Option Image) → Keeps w (read_step f w k read reply image)
 keeps_read_step f w k (ReadBlob name) WasFetched image = keeps_told w k name (told_blob f image name) (fin.get w.readers k)
-keeps_read_step f w k (ReadBlob name) reply image = keeps_same w
 keeps_read_step f w k (RestoredShard files bytes) reply image = keeps_over w k (Restored files bytes) (fin.get w.readers k)
-keeps_read_step f w k (CheckedAll snapshots blobs) reply image = keeps_same w
 keeps_read_step f w k (ReadFails why) reply image = keeps_over w k (NotRestored why) (fin.get w.readers k)
 keeps_read_step f w k read reply image = keeps_same w
 
@@ -346,13 +337,12 @@ none_unpruned w k (Some t) is =
 none_prune : (f : Formats) (w : World) (k : ℕ) (prune : Prune) (reply : Reply) (image : Option Image) → swaps_record (PruneStep prune) ≡ false → NoneOf (prune_step f w k prune reply image).tickets → NoneOf w.tickets
 none_prune f w k (FetchShard name) WasFetched image e none =
     none_given w k (fetching name (told_blob f image name)) (fin.get w.tickets k) refl (λ t uuids plan work. (plan, fetching_work name (told_blob f image name) t ∙ work)) none
-none_prune f w k (FetchShard name) reply image e none = none
 none_prune f w k (PlanShards shards) reply image e none =
     none_given w k (planned f shards w.next_id) (fin.get w.tickets k) refl (planned_stays f shards w.next_id) none
 none_prune f w k SettlePruned reply image e none = absurd (true≢false e)
-none_prune f w k (RemoveDoomed names) reply image e none = none
 none_prune f w k EndDelete reply image e none = none_given w k (λ t. record t { out = false }) (fin.get w.tickets k) refl (λ t uuids plan work. (plan, work)) none
 none_prune f w k (DeleteFails why) reply image e none = none_unpruned w k (fin.get w.tickets k) refl none
+none_prune f w k prune reply image e none = none
 
 keeps_prune : (f : Formats) (w : World) (k : ℕ) (prune : Prune) (reply : Reply) (image : Option Image) → swaps_record (PruneStep prune) ≡ false → Keeps w (prune_step f w k prune reply image)
 keeps_prune f w k prune reply image e =
@@ -395,16 +385,13 @@ keeps_fallen f w up image h =
 
 keeps_left : (w : World) (name : BlobName) (was now : Option Bytes) → Keeps w (test_left w name was now)
 keeps_left w name None (Some bytes) = record { root = refl; works = works_same w.tickets; none = λ h. h }
-keeps_left w name None None = keeps_same w
-keeps_left w name (Some was) now = keeps_same w
+keeps_left w name was now = keeps_same w
 
 keeps_fault : (f : Formats) (w : World) → AreBelow w → (k : ℕ) (step : Step) (image : Option Image) → IsNoSettle step → Keeps w (faulted f w k step image)
 keeps_fault f w below k LatestStep image no_settle = keeps_change w k (λ t. record t { tried_latest = true }) (λ t. refl) (fin.get w.tickets k) refl
 keeps_fault f w below k (BeginStep name) image no_settle = keeps_either w (tried w k) w (is_latest name) (keeps_change w k (λ t. record t { tried_latest = true }) (λ t. refl) (fin.get w.tickets k) refl) (keeps_same w)
-keeps_fault f w below k (AskStep (Snapshot name indices moment)) image no_settle = keeps_fallen f w _ image (keeps_done_step f w below k (AskStep (Snapshot name indices moment)) HasEnded image tt)
-keeps_fault f w below k (AskStep (Clone source name indices moment taken)) image no_settle = keeps_fallen f w (asked w (Clone source name indices moment taken)) image (keeps_clone w source name indices moment taken)
-keeps_fault f w below k (AskStep (DeleteSnapshots names)) image no_settle = keeps_fallen f w (asked_delete w names) image (keeps_delete w names)
-keeps_fault f w below k (AskStep Cleanup) image no_settle = keeps_fallen f w (asked w Cleanup) image (keeps_done_step f w below k (AskStep Cleanup) HasEnded image tt)
+keeps_fault f w below k (AskStep (Restore name place)) image no_settle = keeps_same w
+keeps_fault f w below k (AskStep command) image no_settle = keeps_fallen f w (done_step f w k (AskStep command) HasEnded image) image (keeps_done_step f w below k (AskStep command) HasEnded image tt)
 keeps_fault f w below k RaiseStep image no_settle = keeps_fallen f w _ image (keeps_done_step f w below k RaiseStep HasEnded image tt)
 keeps_fault f w below k SettleStep image no_settle = absurd no_settle
 keeps_fault f w below k DroppedStep image no_settle = keeps_fallen f w _ image (keeps_done_step f w below k DroppedStep HasEnded image tt)
@@ -513,10 +500,9 @@ module _ (f : Formats) (size : ℕ) (w : World) where
   pruned_kept who prune reply image (SettlingDelete k im s present same) plain = same_kept im same
   pruned_kept who prune reply image (SettleDeleteStale k im s apart same) plain = same_kept im same
   pruned_kept who prune reply image (SettleDeleteFails k im s present same) plain = same_kept im same
-  pruned_kept who prune reply image (RemovingDoomed k names im r removed) plain = absurd plain
-  pruned_kept who prune reply image (RemoveDoomedFails k names im r removes) plain = absurd plain
   pruned_kept who prune reply image (EndingDelete k im e same) plain = same_kept im same
   pruned_kept who prune reply image (FailingDelete k why im c same) plain = same_kept im same
+  pruned_kept who prune reply image other plain = absurd plain
 
   pub allowed_kept : (who : ℕ) (step : Step) (reply : Reply) (image : Option Image) → AreTests w.caller → Allows f size w who step reply image → LeavesAll step reply → Kept image
   allowed_kept who step reply image tests (allowed.Accepting name indices moment o im a same) plain = same_kept im same
@@ -539,16 +525,13 @@ module _ (f : Formats) (size : ℕ) (w : World) where
   allowed_kept who step reply image tests (allowed.Dropping k im h same) plain = same_kept im same
   allowed_kept who step reply image tests (allowed.Electing im room same) plain = same_kept im same
   allowed_kept who step reply image tests (allowed.Looking im same) plain = same_kept im same
-  allowed_kept who step reply image tests (allowed.AskingRestore name place r im h same) plain = same_kept im same
-  allowed_kept who step reply image tests (allowed.AskingClone source name names moment taken r im h same) plain = same_kept im same
-  allowed_kept who step reply image tests (allowed.AskingDelete names r im h same) plain = same_kept im same
-  allowed_kept who step reply image tests (allowed.AskingCleanup r im h same) plain = same_kept im same
+  allowed_kept who step reply image tests (allowed.OpeningRestore name place o uuid indices im a same) plain = same_kept im same
+  allowed_kept who step reply image tests (allowed.OpeningClone source name names moment o taken im a same) plain = same_kept im same
+  allowed_kept who step reply image tests (allowed.GoingInto names im a same) plain = same_kept im same
+  allowed_kept who step reply image tests (allowed.OpeningCleanup im a same) plain = same_kept im same
   allowed_kept who step reply image tests (allowed.Verifying read r im h) plain = verified_kept read r im tests h
   allowed_kept who step reply image tests (allowed.Reading k read r im h same) plain = same_kept im same
-  allowed_kept who step reply image tests (allowed.Cleaning command d x im recorded untaken there clean same) plain = same_kept im same
-  allowed_kept who step reply image tests (allowed.Used name indices moment uuid im none used same) plain = same_kept im same
-  allowed_kept who step reply image tests (allowed.Full name indices moment im none unused full same) plain = same_kept im same
-  allowed_kept who step reply image tests (allowed.AskSpent name indices moment im none unused room spent same) plain = same_kept im same
+  allowed_kept who step reply image tests (allowed.Ruled command refusal im rule same) plain = same_kept im same
   allowed_kept who step reply image tests (allowed.DrawSpent k n im may spent same) plain = same_kept im same
   allowed_kept who step reply image tests (allowed.RaiseStale k im may stale same) plain = same_kept im same
   allowed_kept who step reply image tests (allowed.SettleStale k n t s im may stale same) plain = same_kept im same
@@ -564,6 +547,9 @@ module _ (f : Formats) (size : ℕ) (w : World) where
   allowed_kept who step reply image tests (allowed.FetchFails k name im c same) plain = same_kept im same
   allowed_kept who step reply image tests (allowed.ListFails k from im lists same) plain = same_kept im same
   allowed_kept who step reply image tests (allowed.AskFails name indices moment im a same) plain = same_kept im same
+  allowed_kept who step reply image tests (allowed.AskCloneFails source name names moment taken im a same) plain = same_kept im same
+  allowed_kept who step reply image tests (allowed.AskDeleteFails names im a same) plain = same_kept im same
+  allowed_kept who step reply image tests (allowed.AskCleanupFails im a same) plain = same_kept im same
   allowed_kept who step reply image tests (allowed.RaiseFails k im r same) plain = same_kept im same
   allowed_kept who step reply image tests (allowed.SettleFails k im s same) plain = same_kept im same
   allowed_kept who step reply image tests (allowed.DropFails k im h same) plain = same_kept im same
@@ -635,9 +621,6 @@ generation_kept root new info results fins index shard g at = let now = larger_o
 
 generation_made : (root new : RootData) (info : SnapInfo) (results : List ShardResult) → Finalizes root info results new → (index shard g : ℕ) → done_at results index shard ≡ Some g → (h : ℕ) × Generation new index shard h
 generation_made root new info results fins index shard g at = let now = larger_new (at_shard_of (index_at root.indices index) shard) (done_at results index shard) g at in (now.0, fins.generations index shard ∙ now.1)
-
-pub listed_step : (f : Formats) (w : World) (m : Moment) (infos : List Info) → Tracked w → LeavesInfos m.entry.step m.entry.reply → AreListed w.root infos → AreListed (after f w m).root infos
-listed_step f w m infos t is_plain listed = subst (λ (r : RootData). AreListed r infos) (sym (root_step f w m t is_plain)) listed
 
 -- the indices of another snapshot stay
 pub indices_kept : (root new : RootData) (info : SnapInfo) (results : List ShardResult) → Finalizes root info results new → (uuid : ℕ) (indices : List IndexRef) → uuid ≢ info.uuid
@@ -845,82 +828,14 @@ of_ticket f w k n i t info results made out unsettled present work raised code a
       back = back;
     }
 
-pub infos_settled_of : (f : Formats) (w : World) (k n : ℕ) (t : Ticket) (tells : Bool) (infos : List Info) (i : Info) (info : SnapInfo) (results : List ShardResult) (made : Command) → Tracked w → IsOut w k t → t.settled ≡ false
-    → t.term ≡ w.term
-    → t.work ≡ Finalize info results made → t.raised ≡ Some n → info_of_code i ≡ info → AreApart (map ref_of_code i.indices) → ReadsBack f.info info
-    → AreListed w.root infos → AreInfosOf f w tells infos → AreInfosOf f (settled_of f w k (Some t)) tells (infos ++ i ∷ [])
-infos_settled_of f w k n t tells infos i info results made tr out unsettled present work raised code apart back listed h =
-    let blobs : (settled_of f w k (Some t)).blobs ≡ w.blobs = ap (λ (x : World). x.blobs) (settled_is f w k n t info results made work raised) in
-    infos_settled f w (settled_of f w k (Some t)) k i tr (of_ticket f w k n i t info results made out unsettled present work raised code apart back) tells infos (λ told. blobs_same f w.blobs (settled_of f w k (Some t)).blobs blobs) listed h
-
--- it reads the root and the tickets alone
-in_step : (f : Formats) (w u v : World) (k : ℕ) (i : Info) → v.root ≡ u.root → v.tickets ≡ u.tickets → HasSettled f w u k i → HasSettled f w v k i
-in_step f w u v k i root tickets h =
-    record {
-      t = h.t;
-      out = h.out;
-      unsettled = h.unsettled;
-      present = h.present;
-      info = h.info;
-      results = h.results;
-      made = h.made;
-      work = h.work;
-      root = root ∙ h.root;
-      works = subst (KeepsWork w.tickets) (sym tickets) h.works;
-      none = λ n. h.none (subst NoneOf tickets n);
-      code = h.code;
-      apart = h.apart;
-      back = h.back;
-    }
-
-settling : (f : Formats) (size : ℕ) (w : World) (who : ℕ) (image : Option Image) → Allows f size w who SettleStep WasSettled image → Settles f w who × SameBlobs w image
-settling f size w who image (allowed.Settling k im s same) = (s, same)
-
--- the world after a settle that was answered Ok
-pub of_step : (f : Formats) (size : ℕ) (w : World) (m : Moment) (i : Info) (t : Ticket) (info : SnapInfo) (results : List ShardResult) (made : Command) → Allowed f size w m
-    → m.entry.step ≡ SettleStep → m.entry.reply ≡ WasSettled → fin.get w.tickets m.entry.who ≡ Some t → t.work ≡ Finalize info results made
-    → info_of_code i ≡ info → AreApart (map ref_of_code i.indices) → ReadsBack f.info info
-    → HasSettled f w (after f w m) m.entry.who i × InfosThere f w (after f w m)
-of_step f size w m i t info results made a step_is reply_is there work code apart back = elim a.answered [
-  | inl alive ↦ from (settling f size w m.entry.who m.image (subst (λ (r : Reply). Allows f size w m.entry.who SettleStep r m.image) reply_is (subst (λ (s : Step). Allows f size w m.entry.who s m.entry.reply m.image) step_is alive.1)))
-  | inr dead ↦ absurd (refused dead.refusal (sym reply_is ∙ dead.refused))
-]
-  where
-    refused : (refusal : Refusal) → WasSettled ≡ Refused refusal → ⊥
-    refused refusal e = cc
-
-    from : Settles f w m.entry.who × SameBlobs w m.image → HasSettled f w (after f w m) m.entry.who i × InfosThere f w (after f w m)
-    from (s, same) =
-        let one : s.t ≡ t = same_Some s.t t (sym s.may.out.there ∙ there) in
-        let was : settled_of f w m.entry.who (Some t) ≡ answered f w m.entry.who m.entry.step m.entry.reply m.image =
-        (λ j. settled_of f w m.entry.who (sym there j)) ∙ (λ j. answered f w m.entry.who (sym step_is j) (sym reply_is j) m.image) in
-        let over : HasSettled f w (settled_of f w m.entry.who (Some t)) m.entry.who i =
-        of_ticket f w m.entry.who s.n i t info results made
-        (record { there = there; out = subst (λ (x : Ticket). x.out ≡ true) one s.may.out.out })
-        (subst (λ (x : Ticket). x.settled ≡ false) one s.may.unsettled)
-        (subst (λ (x : Ticket). x.term ≡ w.term) one s.present)
-        work
-        (subst (λ (x : Ticket). x.raised ≡ Some s.n) one s.may.raised)
-        code apart back in
-        (in_step f w (answered f w m.entry.who m.entry.step m.entry.reply m.image) (after f w m) m.entry.who i refl refl (subst (λ (x : World). HasSettled f w x m.entry.who i) was over), same_kept f size w m.image same)
-
-pub infos_settle_step : (f : Formats) (size : ℕ) (w : World) (m : Moment) (tells : Bool) (infos : List Info) (i : Info) (t : Ticket) (info : SnapInfo) (results : List ShardResult) (made : Command) → Tracked w → Allowed f size w m
-    → m.entry.step ≡ SettleStep → m.entry.reply ≡ WasSettled → fin.get w.tickets m.entry.who ≡ Some t → t.work ≡ Finalize info results made
-    → info_of_code i ≡ info → AreApart (map ref_of_code i.indices) → ReadsBack f.info info
-    → AreListed w.root infos → AreInfosOf f w tells infos → AreInfosOf f (after f w m) tells (infos ++ i ∷ []) × AreListed (after f w m).root (infos ++ i ∷ [])
-infos_settle_step f size w m tells infos i t info results made tr a step_is reply_is there work code apart back listed h =
-    let s = of_step f size w m i t info results made a step_is reply_is there work code apart back in
-    (infos_settled f w (after f w m) m.entry.who i tr s.0 tells infos (λ told. s.1) listed h, listed_settled f w (after f w m) m.entry.who i tr s.0 infos listed)
-
 -- ---- what is known of the info
 
 done_one : (shards : List ShardWork) (a b : List ShardResult) → AllDone shards a → AllDone shards b → a ≡ b
 done_one [] [] [] p q = refl
-done_one [] [] (y ∷ b) p q = absurd q
 done_one [] (x ∷ a) b p q = absurd p
 done_one (s ∷ shards) [] b p q = absurd p
-done_one (s ∷ shards) (x ∷ a) [] p q = absurd q
 done_one (s ∷ shards) (x ∷ a) (y ∷ b) p q = λ j. done_same x y (sym p.0 ∙ q.0) j ∷ done_one shards a b p.1 q.1 j
+done_one shards a b p q = absurd q
 
 -- the info of a finalization that is out is that of its op
 pub final_info : (w : World) (k : ℕ) (t : Ticket) (info : SnapInfo) (results : List ShardResult) (made : Command) → Tracked w → IsOut w k t → t.settled ≡ false → t.term ≡ w.term → t.work ≡ Finalize info results made

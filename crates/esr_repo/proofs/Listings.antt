@@ -51,9 +51,8 @@ after_back None text h = tt
 after_back (Some name) text h = h
 
 last_same : (page : List Listed) → last_text (page_of page) ≡ depot.last_name (map size_of page)
-last_same [] = refl
-last_same (x ∷ []) = refl
 last_same (x ∷ y ∷ page) = last_same (y ∷ page)
+last_same page = refl
 
 rises : (page : List Listed) → depot.IsRising (map size_of page) → IsRising (page_of page)
 rises [] h = tt

@@ -3,11 +3,11 @@ use Rattle.std.proofs.Common.{◌≡◌, ℕ, true, false, true≢false, List, m
 use Rattle.std.specs.Prelude.{is_some}
 use Rattle.esr_core.specs.World.{World}
 use Rattle.esr_core.specs.Ready.{AnyReady, AShard, AFinalize, ADrop, ADelete, ACleanup, ARestore}
-use Rattle.esr_core.specs.Entry.{Entry, Moment, Given}
+use Rattle.esr_core.specs.Entry.{Entry, Moment}
 use Rattle.esr_results.specs.Results.{result_of}
 use Rattle.esr_depot.specs.Look.{Look}
 use Rattle.esr_ops.specs.Plan.{Plan, IsPlanOf, IsGivenIn}
-use Rattle.esr_ops.specs.Units.{GivesWork, NextUnit, given_by, given_of, GivesUnit}
+use Rattle.esr_ops.specs.Units.{GivesWork, NextUnit}
 use Rattle.esr_ops.specs.declared.unit.Work.{Work}
 use Rattle.esr_ops.specs.declared.unit.Work.TheVariants as works
 use Rattle.esr_ops.specs.declared.unit.Copied.{Copied}
@@ -16,59 +16,23 @@ use Rattle.esr_desk.specs.Start.{Start, world_of}
 use Rattle.esr_repo.specs.Log.{log_of}
 use Rattle.esr_repo.specs.Next.{IsLive}
 use Rattle.esr_repo.specs.Repo.{Kept, IsRepo}
-use Rattle.std.specs.FinMap as fin
-use Rattle.esr_model.specs.Values.{Formats}
-use Rattle.esr_core.specs.After.{taken_by}
 use Rattle.esr_root.specs.Root.{Root}
 use Rattle.esr_formats.specs.Roots.{root_of}
-use Rattle.esr_repo.specs.Based.{base_for, based}
 
 -- ---- the unit that is ready
 
 pub given_in : (w : World) (plan : Plan) (root : Root) (safe term : ℕ) → IsPlanOf w plan → root_of root ≡ w.root → safe ≡ w.safe → term ≡ w.term → IsGivenIn plan (root_of root) safe term w
 given_in w plan root safe term plan_is root_is safe_is term_is = record { plan = plan_is; root_is = sym root_is; safe_is = sym safe_is; term_is = sym term_is }
 
--- of what is given the base tells only of a shard
-given_based : (w : World) (o : ℕ) (work : Work) (copy : Copied) → GivesWork w o work copy → given_by work (record copy { base = base_for work copy.base }) ≡ given_by work copy
-given_based w o (works.Shard uuid shard index place) copy h = refl
-given_based w o (works.Finalize info shards) copy h = refl
-given_based w o works.Drop copy h = refl
-given_based w o (works.RestoreShard uuid shard index place) copy h = refl
-given_based w o (works.CloneShard source uuid shard index) copy h = refl
-given_based w o (works.Delete uuids) copy h = refl
-given_based w o works.Cleanup copy h = refl
-
-gives_based : (w : World) (o : ℕ) (work : Work) (copy : Copied) → GivesWork w o work copy → GivesWork w o work (record copy { base = base_for work copy.base })
-gives_based w o (works.Shard uuid shard index place) copy h = h
-gives_based w o (works.Finalize info shards) copy h = h
-gives_based w o works.Drop copy h = h
-gives_based w o (works.RestoreShard uuid shard index place) copy h = h
-gives_based w o (works.CloneShard source uuid shard index) copy h = h
-gives_based w o (works.Delete uuids) copy h = h
-gives_based w o works.Cleanup copy h = h
-
-abbrev Next : World → Plan → ReadyUnit → Type 0
-Next w new u = GivesUnit w u × ((f : Formats) → IsPlanOf (taken_by f w u.op (given_of u) (fin.get w.ops u.op)) new)
-
-next_based : (w : World) (new : Plan) (u : ReadyUnit) → Next w new u → Next w new (based u)
-next_based w new u h = (
-  record { ticket = h.0.ticket; lowest = h.0.lowest; gives = gives_based w u.op u.work u.copy h.0.gives; copy = record { safe = h.0.copy.safe; root = h.0.copy.root } },
-  λ f. subst (λ (x : Given). IsPlanOf (taken_by f w u.op x (fin.get w.ops u.op)) new) (sym (given_based w u.op u.work u.copy h.0.gives)) (h.1 f),
-)
-
-pub next_unit : (w : World) (new : Plan) (u v : ReadyUnit) → v ≡ based u → Next w new u → Next w new v
-next_unit w new u v e h = subst (Next w new) (sym e) (next_based w new u h)
-
 -- ---- the list of ops tells it
 
 work_ready : (w : World) (o : ℕ) (work : Work) (copy : Copied) → GivesWork w o work copy → AnyReady w
-work_ready w o (works.Shard uuid shard index place) copy h = AShard o h.gives.op h.gives.s h.gives.ready
-work_ready w o (works.CloneShard source uuid shard index) copy h = AShard o h.gives.op h.gives.s h.gives.ready
 work_ready w o (works.Finalize info shards) copy h = AFinalize o h.0 (map result_of shards) h.1
 work_ready w o works.Drop copy h = ADrop o h
 work_ready w o (works.RestoreShard uuid shard index place) copy h = ARestore o h.gives.r h.gives.s h.gives.ready
 work_ready w o (works.Delete uuids) copy h = ADelete o h.0 h.1
 work_ready w o works.Cleanup copy h = ACleanup o h.0 h.1
+work_ready w o work copy h = AShard o h.gives.op h.gives.s h.gives.ready
 
 pub next_ready : (w : World) (next : Option (Plan × ReadyUnit)) → NextUnit w next → is_some next ≡ true → AnyReady w
 next_ready w None h some = absurd (true≢false (sym some))

@@ -12,9 +12,9 @@ use Rattle.esr_model.specs.Values.{Bytes, ReadsBack, Formats}
 use Rattle.esr_model.specs.Uploads.{same_bytes}
 use Rattle.esr_model.specs.Image.{Image}
 use Rattle.esr_core.specs.World.{World, Ticket, Swap, swap, record_of}
-use Rattle.esr_core.specs.Entry.{CloneOf, Snapshot, Clone, DeleteSnapshots, Cleanup, Step, AskStep, RaiseStep, SettleStep, DroppedStep, ElectStep, Prune, SettlePruned, PruneStep, Reply, HasEnded, Refused, DepotFault, Entry, Moment}
+use Rattle.esr_core.specs.Entry.{Clone, DeleteSnapshots, Step, AskStep, RaiseStep, SettleStep, DroppedStep, ElectStep, Prune, SettlePruned, PruneStep, Reply, HasEnded, Refused, DepotFault, Entry, Moment, Restore}
 use Rattle.esr_core.specs.After.{with_given, done_step, swaps_record, text_is, has_text, settled_by, settled_of, dropped_of, delete_settled_by, delete_settled, fallen, faulted, answered, blobs_in, after}
-use Rattle.esr_core.specs.Allowed.{Accepts, Raises, AcceptsClone, CloneAllows, OpeningClone, CloneFault, DeleteAllows, GoingInto, DeleteFault, CleanupAllows, OpeningCleanup, CleanupFault, PruneAllows, SettlingDelete, SettleDeleteFails, Allows, SameBlobs, Told, Allowed}
+use Rattle.esr_core.specs.Allowed.{Accepts, Raises, AcceptsClone, PruneAllows, SettlingDelete, SettleDeleteFails, Allows, SameBlobs, Told, Allowed}
 use Rattle.esr_core.specs.Allowed as allowed
 use Rattle.esr_core.specs.Left.{Leaves}
 use Rattle.esr_core.specs.Laws.DeleteAsks.{delete_leaves}
@@ -58,10 +58,8 @@ swap_calls step reply h a = swap_asks step h
 
 module _ (f : Formats) (w : World) (who : ℕ) where
   done_is : (step : Step) (reply : Reply) (image : Option Image) → swaps_record step ≡ true → done_step f w who step reply image ≡ done_step f w who step HasEnded None
-  done_is (AskStep (Snapshot name indices moment)) reply image h = refl
-  done_is (AskStep (Clone source name indices moment taken)) reply image h = refl
-  done_is (AskStep (DeleteSnapshots names)) reply image h = refl
-  done_is (AskStep Cleanup) reply image h = refl
+  done_is (AskStep (Restore name place)) reply image h = absurd (true≢false (sym h))
+  done_is (AskStep command) reply image h = refl
   done_is RaiseStep reply image h = refl
   done_is SettleStep reply image h = refl
   done_is DroppedStep reply image h = refl
@@ -76,10 +74,8 @@ module _ (f : Formats) (w : World) (who : ℕ) where
 
   -- or to one of two, where it failed
   faulted_is : (step : Step) (image : Option Image) → swaps_record step ≡ true → faulted f w who step image ≡ fallen f w (done_step f w who step HasEnded None) image
-  faulted_is (AskStep (Snapshot name indices moment)) image h = refl
-  faulted_is (AskStep (Clone source name indices moment taken)) image h = refl
-  faulted_is (AskStep (DeleteSnapshots names)) image h = refl
-  faulted_is (AskStep Cleanup) image h = refl
+  faulted_is (AskStep (Restore name place)) image h = absurd (true≢false (sym h))
+  faulted_is (AskStep command) image h = refl
   faulted_is RaiseStep image h = refl
   faulted_is SettleStep image h = refl
   faulted_is DroppedStep image h = refl
@@ -93,8 +89,7 @@ module _ (f : Formats) (w : World) (who : ℕ) where
 
   settled_live_by : (t : Ticket) (change : Option Swap) (n : Option ℕ) → (settled_by f w who t change n).deposed ≡ w.deposed
   settled_live_by t (Some x) (Some n) = refl
-  settled_live_by t (Some x) None = refl
-  settled_live_by t None n = refl
+  settled_live_by t change n = refl
 
   settled_live : (o : Option Ticket) → (settled_of f w who o).deposed ≡ w.deposed
   settled_live None = refl
@@ -102,8 +97,7 @@ module _ (f : Formats) (w : World) (who : ℕ) where
 
   delete_settled_live_by : (t : Ticket) (change : Option Swap) (n : Option ℕ) → (delete_settled_by f w who t change n).deposed ≡ w.deposed
   delete_settled_live_by t (Some x) (Some n) = refl
-  delete_settled_live_by t (Some x) None = refl
-  delete_settled_live_by t None n = refl
+  delete_settled_live_by t change n = refl
 
   delete_settled_live : (o : Option Ticket) → (delete_settled f w who o).deposed ≡ w.deposed
   delete_settled_live None = refl
@@ -114,11 +108,10 @@ module _ (f : Formats) (w : World) (who : ℕ) where
   dropped_live (Some t) = refl
 
   swapped_live : (step : Step) → swaps_record step ≡ true → (done_step f w who step HasEnded None).deposed ≡ w.deposed
-  swapped_live (AskStep (Snapshot name indices moment)) h = refl
-  swapped_live (AskStep (Clone source name indices moment None)) h = refl
-  swapped_live (AskStep (Clone source name indices moment (Some taken))) h = refl
   swapped_live (AskStep (DeleteSnapshots names)) h = ap (λ (v : World). v.deposed) (delete_leaves w names)
-  swapped_live (AskStep Cleanup) h = refl
+  swapped_live (AskStep (Clone source name indices moment None)) h = refl
+  swapped_live (AskStep (Restore name place)) h = absurd (true≢false (sym h))
+  swapped_live (AskStep command) h = refl
   swapped_live RaiseStep h = given_live (λ t. record t { raised = Some w.pending }) (fin.get w.tickets who)
   swapped_live SettleStep h = settled_live (fin.get w.tickets who)
   swapped_live DroppedStep h = dropped_live (fin.get w.tickets who)
@@ -127,20 +120,6 @@ module _ (f : Formats) (w : World) (who : ℕ) where
   swapped_live step h = absurd (true≢false (sym h))
 
 -- where it may be answered it may fail
-delete_may_fail : {w : World} {names : List Bytes} {reply : Reply} → DeleteAllows w names reply → is_refused reply ≡ false → DeleteAllows w names (Refused DepotFault)
-delete_may_fail (GoingInto acc) a = DeleteFault acc
-delete_may_fail other a = absurd cc
-
-cleanup_may_fail : {w : World} {reply : Reply} → CleanupAllows w reply → is_refused reply ≡ false → CleanupAllows w (Refused DepotFault)
-cleanup_may_fail (OpeningCleanup acc) a = CleanupFault acc
-cleanup_may_fail other a = absurd cc
-
-clone_may_fail : {f : Formats} {w : World} {source name : Bytes} {names : List Bytes} {moment : ℕ} {taken : Option CloneOf} {reply : Reply} {image : Option Image} → CloneAllows f w source name names moment taken reply image
-    → is_refused reply ≡ false
-    → CloneAllows f w source name names moment taken (Refused DepotFault) image
-clone_may_fail {f} {w} {source} {name} {names} {moment} (OpeningClone what o im acc) a = CloneFault what im (subst (λ n. AcceptsClone f w source name names moment n what im) acc.number acc)
-clone_may_fail other a = absurd cc
-
 prune_may_fail : {f : Formats} {w : World} {who : ℕ} {prune : Prune} {reply : Reply} {image : Option Image} → PruneAllows f w who prune reply image → swaps_record (PruneStep prune) ≡ true → is_refused reply ≡ false
     → SameBlobs w image → PruneAllows f w who prune (Refused DepotFault) image
 prune_may_fail (SettlingDelete k im s present same) h a is = SettleDeleteFails k im s present is
@@ -149,9 +128,9 @@ prune_may_fail other h a is = absurd cc
 may_fail : {f : Formats} {part_size : ℕ} {w : World} {who : ℕ} {step : Step} {reply : Reply} {image : Option Image} → Allows f part_size w who step reply image → swaps_record step ≡ true → is_refused reply ≡ false
     → SameBlobs w image → Allows f part_size w who step (Refused DepotFault) image
 may_fail {f} {part_size} {w} (allowed.Accepting name indices moment o im acc same) h a is = allowed.AskFails name indices moment im (subst (λ n. Accepts f w name indices moment n) acc.number acc) is
-may_fail (allowed.AskingClone source name names moment taken reply im c same) h a is = allowed.AskingClone source name names moment taken (Refused DepotFault) im (clone_may_fail c a) is
-may_fail (allowed.AskingDelete names reply im d same) h a is = allowed.AskingDelete names (Refused DepotFault) im (delete_may_fail d a) is
-may_fail (allowed.AskingCleanup reply im d same) h a is = allowed.AskingCleanup (Refused DepotFault) im (cleanup_may_fail d a) is
+may_fail {f} {part_size} {w} (allowed.OpeningClone source name names moment o what im acc same) h a is = allowed.AskCloneFails source name names moment what im (subst (λ n. AcceptsClone f w source name names moment n what im) acc.number acc) is
+may_fail (allowed.GoingInto names im acc same) h a is = allowed.AskDeleteFails names im acc is
+may_fail (allowed.OpeningCleanup im acc same) h a is = allowed.AskCleanupFails im acc is
 may_fail {f} {part_size} {w} (allowed.Raising k n im r same) h a is = allowed.RaiseFails k im (subst (λ n. Raises f w k n) r.n_is r) is
 may_fail (allowed.Settling k im r same) h a is = allowed.SettleFails k im r is
 may_fail (allowed.Dropping k im r same) h a is = allowed.DropFails k im r is

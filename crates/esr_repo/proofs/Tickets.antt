@@ -198,15 +198,13 @@ module _ (f : Formats) (w : World) (tracked : Tracked w) (v : Ticket) where
 
   by_unit : (o : ℕ) (unit : Given) (given : Option Op) → Gives f w o unit → fin.get (taken_by f w o unit given).tickets w.next_ticket ≡ Some v → IsOther v ⊎ IsPruner (taken_by f w o unit given).ops v
   by_unit o (GivenShard index number base) (Some x) gives e = inl (by_shard o x base (shard_of x.shards index number) e)
-  by_unit o (GivenShard index number base) None gives e = absurd (fresh_number e)
   by_unit o (GivenClone index number source base) (Some x) gives e = inl (by_shard o x base (shard_of x.shards index number) e)
-  by_unit o (GivenClone index number source base) None gives e = absurd (fresh_number e)
   by_unit o (GivenFinalize info results) (Some x) gives e = inl (other_unit (final_ticket f w o x results) (refl, λ us p is. cc) e)
-  by_unit o (GivenFinalize info results) None gives e = absurd (fresh_number e)
   by_unit o GivenDrop given gives e = inl (other_unit (plain_ticket w o Drop) (refl, λ us p is. cc) e)
   by_unit o (GivenRestore index number uuid) given gives e = absurd (by_restore o index number (fin.get w.restores o) e)
   by_unit o (GivenDelete us) given gives e = inr (pruner_unit o gives.0 (plain_ticket w o (Deleting us None)) gives.1.there refl (λ clean. absurd (true≢false (sym clean))) e)
   by_unit o GivenCleanup given gives e = inr (pruner_unit o gives.0 (cleaning_ticket w o) gives.1.there refl (λ clean. refl) e)
+  by_unit o unit given gives e = absurd (fresh_number e)
 
   by_take : (who : ℕ) (reply : Reply) (image : Option Image) → ((k o : ℕ) (unit : Given) → reply ≡ Gave k o unit → Gives f w o unit) → fin.get (answered f w who TakeStep reply image).tickets w.next_ticket ≡ Some v
       → IsOther v ⊎ IsPruner (answered f w who TakeStep reply image).ops v

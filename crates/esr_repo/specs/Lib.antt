@@ -13,7 +13,6 @@ pub mod Calls
 pub mod Begun
 pub mod Past
 pub mod Whole
-pub mod Based
 pub mod Counted
 pub mod Deposed
 pub mod KeptFaults

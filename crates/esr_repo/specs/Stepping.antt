@@ -1,9 +1,9 @@
 -- What is known of a step by its answer, once it was looked whether it goes on.
-use Rattle.std.proofs.Common.{◌≡◌, ◌≢◌, ℕ, true, List, Option, Some, None, Result, Ok, Err, OnOk, refl, sym, ap, ◌∙◌, subst, suc, zero, IfOk}
+use Rattle.std.proofs.Common.{◌≡◌, ◌≢◌, ℕ, true, List, Option, Some, None, Result, Ok, Err, OnOk, refl, sym, ap, ◌∙◌, subst, zero, IfOk}
 use Rattle.esr_model.specs.Image.{Image}
 use Rattle.esr_model.specs.Names.{BlobName, Latest}
 use Rattle.esr_model.specs.Values.{Formats, Bytes}
-use Rattle.esr_core.specs.Entry.{Step, Reply, Refused, Moment, Read, ReadBlob, RestoredShard, CheckedAll, DrawTest, CommitTest, RemoveTests, VerifiedAll, ReadFails, ReadStep, Refusal}
+use Rattle.esr_core.specs.Entry.{Step, Reply, Refused, Moment, Read, ReadBlob, DrawTest, ReadStep, Refusal}
 use Rattle.esr_core.specs.Allowed.{Told}
 use Rattle.esr_core.specs.World.{Caller}
 use Rattle.esr_core.specs.Restores.{IsTestOf}
@@ -55,15 +55,8 @@ on_done s mid new who step reply (Err e) did f = tt
 -- a step that reads, and isn't the draw of an id, was refused
 unread : (f : Formats) (c : Caller) (who : ℕ) (read : Read) (refusal : Refusal) (image : Option Image) → (read ≡ DrawTest → ⊥) → caller_by f c who read (Refused refusal) image ≡ c
 unread f c zero (ReadBlob name) refusal image other = refl
-unread f c zero (RestoredShard files bytes) refusal image other = refl
-unread f c zero (CheckedAll snapshots blobs) refusal image other = refl
 unread f c zero DrawTest refusal image other = absurd (other refl)
-unread f c zero (CommitTest name) refusal image other = refl
-unread f c zero (RemoveTests names) refusal image other = refl
-unread f c zero VerifiedAll refusal image other = refl
-unread f c zero (ReadFails why) refusal image other = refl
-unread f c zero read refusal image other = refl
-unread f c (suc k) read refusal image other = refl
+unread f c who read refusal image other = refl
 
 -- whatever the refusal of a step that reads
 pub refused_caller : (law : CallersTold) (s : Start) (old new : List Moment) (who : ℕ) (read : Read) (e : StepRefusal) → (read ≡ DrawTest → ⊥) → AddedOr s old new who (ReadStep read) e → caller_of s new ≡ caller_of s old

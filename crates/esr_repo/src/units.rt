@@ -2,25 +2,15 @@
 ghost use Rattle.std.specs.Prelude.{◌≡◌, ◌<◌, ◌^◌, true, false, length, Some, IfOk, IfSome};
 ghost use Rattle.esr_core.specs.Ready.{AnyReady};
 ghost use Rattle.esr_ops.specs.Units.{NextUnit};
+ghost use Rattle.esr_progress.specs.Based.{IsBased};
 ghost use Rattle.esr_desk.specs.Start.{world_of};
-ghost use Rattle.esr_repo.specs.Based.{based, IsBased};
 ghost use Rattle.esr_repo.specs.Next.{IsLive};
 
 use crate::{Repo, Told};
 use esr_depot::Depot;
-use esr_ops::{ReadyUnit, Work};
+use esr_ops::ReadyUnit;
 use esr_progress::Progress;
 use std::alloc::{AllocError, Global};
-
-/// A unit without a base, but for that of a shard, of a clone's too.
-fn based(mut unit: ReadyUnit) -> ReadyUnit
-    ensures { result ≡ based unit }
-{
-    if !matches!(unit.work, Work::Shard { .. } | Work::CloneShard { .. }) {
-        unit.copy.base = None;
-    }
-    unit
-}
 
 impl<D: Depot, K: Told> Repo<D, K> {
     /// The first ready unit of the lowest op, with the list in which its ticket is out.
@@ -32,13 +22,7 @@ impl<D: Depot, K: Told> Repo<D, K> {
     {
         self.rules();
         let root = self.safe_root();
-        match self
-            .plan()
-            .next_unit(alloc, root, self.safe(), self.term())?
-        {
-            Some((progress, unit)) => Ok(Some((progress, based(unit)))),
-            None => Ok(None),
-        }
+        self.plan().next_unit(alloc, root, self.safe(), self.term())
     }
 
     /// Whether a unit is ready. It answers so after a record swap that failed, too: a take is refused then.

@@ -5,7 +5,7 @@ use Rattle.std.proofs.lemmas.List.{take_more, take_all, drop_more}
 use Rattle.esr_model.specs.Values.{Bytes}
 use Rattle.esr_core.specs.After.{or_else}
 use Rattle.esr_core.specs.Entry as entry
-use Rattle.esr_core.specs.Entry.{Snapshot, Clone, DeleteSnapshots, Step, AskStep, Accepted, Gave, ElectedTerm, Entry}
+use Rattle.esr_core.specs.Entry.{Snapshot, Clone, DeleteSnapshots, Step, AskStep, Accepted, Gave, Entry}
 use Rattle.esr_report.specs.declared.reply.Reply.{Reply as CodeReply}
 use Rattle.esr_report.specs.declared.tickets.OpEnd.{OpEnd}
 use Rattle.esr_report.specs.Replies.{Reply, is_op, name_by, name_of_op, is_over, final_kept, final_step, final_from, final_out, abort_by, abort_of, aborts_at}
@@ -18,7 +18,6 @@ use Rattle.esr_report.proofs.FirstEnds.{or_else_none, or_else_both}
 
 stepped : (op : ℕ) (k : Option ℕ) (e : Entry) (reply : entry.Reply) → final_step op k e reply ≡ final_by op k reply (final_kept k e.who (is_over e.step reply))
 stepped op k e (Gave ticket o unit) = refl
-stepped op k e (ElectedTerm term) = refl
 stepped op k e reply = refl
 
 -- one entry more was read
@@ -68,9 +67,8 @@ unasked name (AskStep command) (Accepted d) h = refl
 unasked name step reply h = refl
 
 unasked_of : (n : Option Bytes) (k : Option ℕ) (step : Step) (reply : entry.Reply) → asks_delete step reply ≡ false → abort_of n k step reply ≡ None
-unasked_of None k step reply h = refl
 unasked_of (Some name) None step reply h = unasked name step reply h
-unasked_of (Some name) (Some x) step reply h = refl
+unasked_of n k step reply h = refl
 
 -- it leaves the answers as they are
 pub aborts_nothing : (before : List Entry) (e : Entry) (op : ℕ) (answer : Option Reply) → asks_delete e.step e.reply ≡ false → answer ≡ or_else answer (aborts_at before op e)

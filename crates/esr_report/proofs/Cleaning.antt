@@ -34,8 +34,7 @@ or_twice false b = refl
 
 or_swap : (a b c : Bool) → (a || (b || c)) ≡ (b || (a || c))
 or_swap true true c = refl
-or_swap true false c = refl
-or_swap false b c = refl
+or_swap a b c = refl
 
 or_both : (a b c : Bool) → ((a || b) || c) ≡ (a || (b || c))
 or_both true b c = refl

@@ -13,7 +13,7 @@ use esr_names::BlobName;
 use esr_script::Script;
 
 /// How a run ended that opened the container; the first that holds.
-#[derive(Clone, Copy, PartialEq, Eq)]
+#[derive(Clone, Copy)]
 pub enum Ending {
     /// A record swap failed.
     SwapFailed,

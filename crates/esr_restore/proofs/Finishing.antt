@@ -57,14 +57,13 @@ module _ (s : Start) (q : Reader) (at : ShardId) (uuid : ℕ) (is_at : IsAt q at
 
   same_sum : (es : List CodeEntry) (held : List (Bytes × Bytes)) → AllPairs (IsFile s q at) es held → sum_by len_of es ≡ sum_by (λ (file : Bytes × Bytes). length file.1) held
   same_sum [] [] each = refl
-  same_sum [] (h ∷ held) each = absurd each
-  same_sum (e ∷ es) [] each = absurd each
   same_sum (e ∷ es) (h ∷ held) each =
       let len : length h.1 ≡ e.print.len = (each.0.1 tells).len in
       sum_by-cons len_of e es
       ∙ ap (λ (n : ℕ). n + sum_by len_of es) (sym len)
       ∙ ap (λ (n : ℕ). length h.1 + n) (same_sum es held each.1)
       ∙ sym (sum_by-cons (λ (file : Bytes × Bytes). length file.1) h held)
+  same_sum es held each = absurd each
 
 sum_contents : (held : List (Bytes × Bytes)) → sum_by (λ (file : Bytes × Bytes). length file.1) held ≡ sum_by (λ (b : Bytes). length b) (map (λ (file : Bytes × Bytes). file.1) held)
 sum_contents [] = refl

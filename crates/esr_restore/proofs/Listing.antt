@@ -65,10 +65,9 @@ rises_take (x ∷ es) (suc k) e rises less is =
 not_in : (s : Start) (q : Reader) (at : ShardId) (name : Bytes) (es : List CodeEntry) (held : List (Bytes × Bytes)) → AllPairs (IsFile s q at) es held → AllByRecursion (λ f. is_below f.physical name ≡ true) es
     → (k : ℕ) → k < length (map (λ (f : Bytes × Bytes). f.0) held) → slice_index_or (map (λ (f : Bytes × Bytes). f.0) held) k name ≡ name → ⊥
 not_in s q at name [] [] each below k less is = omega (arith, less)
-not_in s q at name [] (h ∷ held) each below k less is = each
-not_in s q at name (e ∷ es) [] each below k less is = each
 not_in s q at name (e ∷ es) (h ∷ held) each below zero less is = not_below name (subst (λ (n : Bytes). is_below n name ≡ true) (each.0.0 ∙ is) below.0)
 not_in s q at name (e ∷ es) (h ∷ held) each below (suc k) less is = let fewer : k < length (map (λ (f : Bytes × Bytes). f.0) held) = omega (arith, less) in not_in s q at name es held each.1 below.1 k fewer is
+not_in s q at name es held each below k less is = each
 
 -- ---- one file after another
 

@@ -23,17 +23,14 @@ is_whole Short = false
 is_whole Long = false
 
 front_is : (extent : Extent) (size : ℕ) (piece rest : Bytes) → HasExtent extent size piece (Some rest) → piece ≡ take (suc size) (piece ++ rest)
-front_is Whole size piece rest has =
-    let fits : length piece ≤ suc size = omega (arith, has.0) in
-    sym (ap (λ (l : Bytes). take (suc size) (piece ++ l)) has.1 ∙ ap (λ (l : Bytes). take (suc size) l) (append-nil piece) ∙ take_all (suc size) piece fits)
-front_is Short size piece rest has =
-    let fits : length piece ≤ suc size = omega (arith, has.0) in
-    sym (ap (λ (l : Bytes). take (suc size) (piece ++ l)) has.1 ∙ ap (λ (l : Bytes). take (suc size) l) (append-nil piece) ∙ take_all (suc size) piece fits)
 front_is Long size piece rest has =
     let len : length piece ≡ size + 1 = has in
     let within : suc size ≤ length piece = omega (arith, len) in
     let fits : length piece ≤ suc size = omega (arith, len) in
     sym (take-append-le (suc size) piece rest within ∙ take_all (suc size) piece fits)
+front_is extent size piece rest has =
+    let fits : length piece ≤ suc size = omega (arith, has.0) in
+    sym (ap (λ (l : Bytes). take (suc size) (piece ++ l)) has.1 ∙ ap (λ (l : Bytes). take (suc size) l) (append-nil piece) ∙ take_all (suc size) piece fits)
 
 -- this is what a fetch of these bytes gives
 pub front_read : (left : Option Bytes) (extent : Extent) (size : ℕ) (bytes piece : Bytes) → Consumes (Some bytes) left piece → HasExtent extent size piece left → piece ≡ front_of size bytes
@@ -45,14 +42,12 @@ told_some true bytes yes_is = refl
 told_some false bytes yes_is = absurd cc
 
 pub extent_bound : (extent : Extent) (size : ℕ) (piece : Bytes) (left : Option Bytes) → HasExtent extent size piece left → length piece ≤ suc size
-extent_bound Whole size piece left has = omega (arith, has.0)
-extent_bound Short size piece left has = omega (arith, has.0)
 extent_bound Long size piece left has = let len : length piece ≡ size + 1 = has in omega (arith, len)
+extent_bound extent size piece left has = omega (arith, has.0)
 
 pub extent_whole : (extent : Extent) (size : ℕ) (piece : Bytes) (left : Option Bytes) → HasExtent extent size piece left → is_whole extent ≡ true → length piece ≡ size
 extent_whole Whole size piece left has whole = has.0
-extent_whole Short size piece left has whole = absurd cc
-extent_whole Long size piece left has whole = absurd cc
+extent_whole extent size piece left has whole = absurd cc
 
 pub extent_other : (extent : Extent) (size : ℕ) (piece : Bytes) (left : Option Bytes) → HasExtent extent size piece left → is_whole extent ≡ false → length piece ≡ size → ⊥
 extent_other Whole size piece left has other = absurd cc
@@ -67,8 +62,7 @@ concat_push xs x = concat-append xs (x ∷ []) ∙ ap (λ (l : Bytes). concat xs
 
 pub one_false : (a b : Bool) → a && b ≡ false → (a ≡ true → b ≡ true → ⊥)
 one_false true true h = absurd cc
-one_false true false h = λ x y. absurd cc
-one_false false b h = λ x y. absurd cc
+one_false a b h = λ x y. absurd cc
 
 pub and_then : (flag a b : Bool) → a ≡ true → flag ≡ b → flag ≡ a && b
 and_then flag true b yes_is is = is
@@ -94,22 +88,17 @@ module _ (has : BlobName → Bytes → Type 0) where
 
   pub there_sized : (len size : ℕ) (parts : List BlobName) (fronts : List Bytes) → AllPairs (IsFront has) (sized len size parts) fronts → AllPairs IsExact (sized len size parts) fronts → AllPairs has parts fronts
   there_sized len size [] [] h k = tt
-  there_sized len size [] (y ∷ ys) h k = absurd h
-  there_sized len size (p ∷ []) [] h k = absurd h
   there_sized len size (p ∷ []) (y ∷ []) h k = (has_front (p, len) y h.0 k.0, tt)
   there_sized len size (p ∷ []) (y ∷ z ∷ ys) h k = absurd h.1
-  there_sized len size (p ∷ n ∷ ps) [] h k = absurd h
   there_sized len size (p ∷ n ∷ ps) (y ∷ ys) h k = (has_front (p, size) y h.0 k.0, there_sized (len - size) size (n ∷ ps) ys h.1 k.1)
+  there_sized len size parts fronts h k = absurd h
 
 pub full_sized : (len size : ℕ) (parts : List BlobName) (fronts : List Bytes) → AllPairs IsExact (sized len size parts) fronts → AreFull size fronts
-full_sized len size [] [] k = tt
 full_sized len size [] (y ∷ ys) k = absurd k
-full_sized len size (p ∷ []) [] k = absurd k
-full_sized len size (p ∷ []) (y ∷ []) k = tt
 full_sized len size (p ∷ []) (y ∷ z ∷ ys) k = absurd k.1
-full_sized len size (p ∷ n ∷ ps) [] k = absurd k
-full_sized len size (p ∷ n ∷ ps) (y ∷ []) k = tt
+full_sized len size (p ∷ other) [] k = absurd k
 full_sized len size (p ∷ n ∷ ps) (y ∷ z ∷ ys) k = (k.0, full_sized (len - size) size (n ∷ ps) (z ∷ ys) k.1)
+full_sized len size parts fronts k = tt
 
 pub same_concat : (xs : List Bytes) → image.concat xs ≡ concat xs
 same_concat [] = refl

@@ -28,6 +28,7 @@ use esr_desk::{
     UnitRefusal, Why,
 };
 use esr_ops::Work;
+use esr_parts::buffer;
 use esr_shardidx::ShardSnap;
 use esr_source::{Target, Targets};
 use esr_unit::{Ending, Trouble, ending_of, give_up};
@@ -58,7 +59,7 @@ fn restore<Q: Desk>(
     ensures went { Went Q.start (Q.seen desk.old) (Q.seen desk.new) job.ticket }
     ensures calls { Q.calls desk.new ≡ Q.calls desk.old }
 {
-    let mut buf = [0; 65536];
+    let mut buf = buffer();
     let snap = fetch_snap(alloc, desk, job)?;
     restore_files(alloc, desk, job, &snap, target, &mut buf)?;
     Ok(snap)

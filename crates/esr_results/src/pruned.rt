@@ -3,7 +3,7 @@ use esr_names::{Id, ShardId};
 use esr_seq::Seq;
 
 /// A shard whose generation goes: it gets an index of what is left of it, or nothing is left.
-#[derive(Clone, Copy, PartialEq, Eq)]
+#[derive(Clone, Copy)]
 pub struct PrunedShard {
     pub shard: ShardId,
     /// Its generation so far.

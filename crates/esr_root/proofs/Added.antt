@@ -247,9 +247,8 @@ listed_added r s xs h =
 -- ---- generations
 
 none_replicated : (n k : ℕ) → generation_in (replicate n None) k ≡ None
-none_replicated zero k = refl
-none_replicated (suc n) zero = refl
 none_replicated (suc n) (suc k) = none_replicated n k
+none_replicated n k = refl
 
 generation_in-append : (gs : List (Option Id)) (n k : ℕ) → generation_in (gs ++ replicate n None) k ≡ generation_in gs k
 generation_in-append [] n k = none_replicated n k

@@ -11,12 +11,24 @@ use std::alloc::{AllocError, Global};
 use std::marker::Model;
 
 /// An index that a root lists, with the uuids of its snapshots.
-#[derive(Debug, Drop)]
+#[derive(Debug)]
 pub struct RootIndex {
     pub name: IndexName,
     pub id: Id,
     pub snapshots: Ids,
     pub generations: Generations,
+}
+
+impl Drop for RootIndex {
+    // Not derived: each crate above would prove a derived one again.
+    fn drop(self) {
+        let RootIndex {
+            name: _name,
+            id: _,
+            snapshots: _snapshots,
+            generations: _generations,
+        } = self;
+    }
 }
 
 impl RootIndex {

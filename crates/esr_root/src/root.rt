@@ -12,10 +12,20 @@ use std::marker::Model;
 
 /// The snapshots in order of finalization, and the indices in byte order of their names.
 /// Each snapshot of an index is listed.
-#[derive(Debug, Drop)]
+#[derive(Debug)]
 pub struct RootData {
     pub snapshots: RootSnaps,
     pub indices: RootIndices,
+}
+
+impl Drop for RootData {
+    // Not derived, so that it is one call at each early exit.
+    fn drop(self) {
+        let RootData {
+            snapshots: _snapshots,
+            indices: _indices,
+        } = self;
+    }
 }
 
 impl Model for RootData {

@@ -11,12 +11,23 @@ use std::alloc::{AllocError, AllocFailed, Global};
 use std::marker::Model;
 
 /// A snapshot that a root lists.
-#[derive(Debug, Drop)]
+#[derive(Debug)]
 pub struct RootSnap {
     pub name: SnapName,
     pub uuid: Id,
     /// 1 for success, 3 for partial; Elasticsearch has others.
     pub state: u8,
+}
+
+impl Drop for RootSnap {
+    // Not derived: each crate above would prove a derived one again.
+    fn drop(self) {
+        let RootSnap {
+            name: _name,
+            uuid: _,
+            state: _,
+        } = self;
+    }
 }
 
 impl RootSnap {

@@ -76,12 +76,10 @@ front_asked s old new (NotBegun is) legal = none_asked s (LookStep ∷ []) old n
 front_asked s old new (Begun h) legal = all_asked s (LookStep ∷ []) old new (begun_asks s old new h legal)
 
 pub check_made : {X : Type 0} (s : Start) (old new : List Moment) (r : Result X UnitRefusal) → AsksOne old new r → (Legal s old → Legal s new) → LineMade s (LookStep ∷ []) old new (check_result r)
-check_made s old new (Ok x) h legal = begun_asks s old new h legal
-check_made s old new (Err (units.Failed why)) h legal = begun_asks s old new h legal
-check_made s old new (Err (units.Stopped (steps.Refused refusal))) h legal = begun_asks s old new h legal
 check_made s old new (Err (units.Stopped steps.Memory)) h legal = front_asked s old new h legal
 check_made s old new (Err (units.Stopped steps.TurnsSpent)) h legal = front_asked s old new h legal
 check_made s old new (Err units.Stale) h legal = absurd h
+check_made s old new r h legal = begun_asks s old new h legal
 
 -- ---- its steps after the look read, and restore no shard
 
@@ -148,20 +146,12 @@ module _ (laws : StepsStay) (s : Start) (numbered : HasNoTickets s) (ops : Track
   check_rests X old new (Err units.Stale) asks legal earlier turns rest = absurd asks
 
 pub check_spends : {X : Type 0} (s : Start) (new : List Moment) (r : Result X UnitRefusal) → s.earlier_turns ≡ 0 → IfErr r (TurnsAre s new) → LineSpends new (check_result r)
-check_spends s new (Ok x) earlier t = tt
-check_spends s new (Err (units.Failed why)) earlier t = tt
-check_spends s new (Err (units.Stopped (steps.Refused refusal))) earlier t = tt
-check_spends s new (Err (units.Stopped steps.Memory)) earlier t = tt
 check_spends s new (Err (units.Stopped steps.TurnsSpent)) earlier t = all_entries s new earlier t
-check_spends s new (Err units.Stale) earlier t = tt
+check_spends s new r earlier t = tt
 
 pub check_turns : {X S F H T : Type 0} (evidence : Evidence S F H T) (s : Start) (old new : List Moment) (r : Result X UnitRefusal) → IfErr r (IsCheckRefused evidence s old new) → IfErr r (TurnsAre s new)
-check_turns evidence s old new (Ok x) h = tt
-check_turns evidence s old new (Err (units.Failed why)) h = tt
-check_turns evidence s old new (Err (units.Stopped steps.Memory)) h = tt
 check_turns evidence s old new (Err (units.Stopped steps.TurnsSpent)) h = h
-check_turns evidence s old new (Err units.Stale) h = tt
-check_turns evidence s old new (Err (units.Stopped (steps.Refused refusal))) h = tt
+check_turns evidence s old new r h = tt
 
 -- ---- it takes no unit
 
@@ -177,12 +167,10 @@ maybe_takes old new (NotBegun is) = ap idle_takes is
 maybe_takes old new (Begun h) = begun_takes old new h
 
 pub check_takes : {X : Type 0} (old new : List Moment) (r : Result X UnitRefusal) → AsksOne old new r → idle_takes new ≡ idle_takes old
-check_takes old new (Ok x) h = begun_takes old new h
-check_takes old new (Err (units.Failed why)) h = begun_takes old new h
-check_takes old new (Err (units.Stopped (steps.Refused refusal))) h = begun_takes old new h
 check_takes old new (Err (units.Stopped steps.Memory)) h = maybe_takes old new h
 check_takes old new (Err (units.Stopped steps.TurnsSpent)) h = maybe_takes old new h
 check_takes old new (Err units.Stale) h = absurd h
+check_takes old new r h = begun_takes old new h
 
 -- ---- nor does it elect
 
@@ -198,12 +186,10 @@ maybe_elects old new (NotBegun is) = ap elections is
 maybe_elects old new (Begun h) = begun_elects old new h
 
 pub check_elects : {X : Type 0} (old new : List Moment) (r : Result X UnitRefusal) → AsksOne old new r → elections new ≡ elections old
-check_elects old new (Ok x) h = begun_elects old new h
-check_elects old new (Err (units.Failed why)) h = begun_elects old new h
-check_elects old new (Err (units.Stopped (steps.Refused refusal))) h = begun_elects old new h
 check_elects old new (Err (units.Stopped steps.Memory)) h = maybe_elects old new h
 check_elects old new (Err (units.Stopped steps.TurnsSpent)) h = maybe_elects old new h
 check_elects old new (Err units.Stale) h = absurd h
+check_elects old new r h = begun_elects old new h
 
 -- ---- and it is whole
 

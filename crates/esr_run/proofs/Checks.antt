@@ -6,10 +6,10 @@ use Rattle.esr_model.specs.Values.{Bytes, Has, Formats}
 use Rattle.esr_model.specs.Names.{BlobName}
 use Rattle.esr_model.specs.Image.{Image}
 use Rattle.esr_core.specs.World.{World, Ticket, Caller}
-use Rattle.esr_core.specs.Entry.{Read, ReadBlob, BeginTest, CommitTest, RemoveTests, CheckedAll, DrawTest, VerifiedAll, ReadFails, Why, Step, ReadStep, Reply, WasFetched, WasAbsent, WasDone, WasRemoved, DrawnFrom, IdsSpent, Refusal, Refused, HasEnded, Moment}
+use Rattle.esr_core.specs.Entry.{Read, ReadBlob, BeginTest, CommitTest, RemoveTests, CheckedAll, DrawTest, VerifiedAll, ReadFails, Why, Step, ReadStep, Reply, WasFetched, WasDone, WasRemoved, DrawnFrom, IdsSpent, Refusal, Refused, HasEnded, Moment}
 use Rattle.esr_core.specs.After.{told_blob, caller_told, caller_wrote, caller_after}
 use Rattle.esr_core.specs.Allowed as allowed
-use Rattle.esr_core.specs.Allowed.{IsChecking, ReadAllows, ReadFound, VerifyAllows, DrawingTest, TestSpent, Allows, Allowed, Blocks, ByFailedSwap, ByDelete}
+use Rattle.esr_core.specs.Allowed.{IsChecking, ReadAllows, ReadFound, VerifyAllows, DrawingTest, Allows, Allowed, Blocks, ByFailedSwap, ByDelete}
 use Rattle.esr_core.specs.Laws.Asides.{blocked_stays}
 use Rattle.esr_desk.specs.Start.{Start, Legal, formats_of, world_of, no_ticket, or_no_ticket, ticket_of}
 use Rattle.esr_desk.specs.Own.{caller_of}
@@ -53,7 +53,6 @@ wrote_open c name (Some bytes) is_open = is_open
 
 blob_open : (f : Formats) (c : Caller) (name : BlobName) (reply : Reply) (image : Option Image) → IsOpen (caller_after f c 0 (ReadStep (ReadBlob name)) reply image) → IsOpen c
 blob_open f c name WasFetched image is_open = told_open c name (told_blob f image name) is_open
-blob_open f c name WasAbsent image is_open = is_open
 blob_open f c name reply image is_open = is_open
 
 commit_open : (f : Formats) (c : Caller) (name : BlobName) (reply : Reply) (image : Option Image) → IsOpen (caller_after f c 0 (ReadStep (CommitTest name)) reply image) → IsOpen c
@@ -96,8 +95,7 @@ read_draws f w who read reply image a = tt
 
 verify_draws : (f : Formats) (w : World) (read : Read) (reply : Reply) (image : Option Image) → VerifyAllows f w read reply image → OfDraw (ReadStep read) reply
 verify_draws f w read reply image (DrawingTest im may fits same) = tt
-verify_draws f w read reply image (TestSpent im may spent same) = tt
-verify_draws f w read reply image a = tt
+verify_draws f w read reply image other = tt
 
 draws : (f : Formats) (size : ℕ) (w : World) (who : ℕ) (step : Step) (reply : Reply) (image : Option Image) → Allows f size w who step reply image → OfDraw step reply
 draws f size w who step reply image (allowed.Reading k read rep im a same) = read_draws f w k read rep im a

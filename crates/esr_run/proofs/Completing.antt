@@ -36,7 +36,7 @@ use Rattle.esr_quiet.specs.PrefixLaws.{told_front}
 use Rattle.esr_complete.specs.Lines.{index_of_line, steps_of_item, steps_of, failovers_of, entries_of, elections_of}
 use Rattle.esr_complete.specs.ItemSteps.{only_step, snapshot_item, restore_item}
 use Rattle.esr_drive.specs.Elections.{election, elections}
-use Rattle.esr_drive.specs.Stopped.{StopsWork, SaidDeposed, SettleFell, DropFell, DeleteFell}
+use Rattle.esr_drive.specs.Stopped.{StopsWork, SaidDeposed}
 use Rattle.esr_complete.specs.InTurn.{IsInTurn, AreChecksInTurn}
 use Rattle.esr_complete.specs.Answers.{AreAnswered, EndsWell}
 use Rattle.esr_complete.specs.FaultFree.{IsFaultFreeRun}
@@ -258,9 +258,7 @@ is_steady telling place name number quiet there = ap (λ (b : Bool). b && unwrap
 
 what_stops : (step : Step) (refusal : Refusal) → StopsWork step refusal → ((place : ℕ) × (refusal ≡ DeposedAt place)) ⊎ (refusal ≡ DepotFault)
 what_stops step refusal (SaidDeposed st place) = inl (place, refl)
-what_stops step refusal SettleFell = inr refl
-what_stops step refusal DropFell = inr refl
-what_stops step refusal DeleteFell = inr refl
+what_stops step refusal other = inr refl
 
 few_before : (a b : List Moment) (m : Moment) → length (a ++ m ∷ b) ≤ 2 ^ 33 → 2 ^ 33 ≤ length a → ⊥
 few_before a b m few many =

@@ -73,8 +73,7 @@ pub refused_tidy : {F : Type 0} (files : Telling) (count : F → ℕ) (before af
     → IsOpenRefused count before after old_faults new_faults refusal → StaysTidy (formats_by files) before after
 refused_tidy files count before after old_faults new_faults refusals.Memory r = as_before_tidy (formats_by files) before after r
 refused_tidy files count before after old_faults new_faults (refusals.DepotFault fetch) r = ⊎_elim (λ same. as_before_tidy (formats_by files) before after same) (λ failed. swap_failed_tidy files before after failed) r.1
-refused_tidy files count before after old_faults new_faults (refusals.Damaged name why) r = as_before_tidy (formats_by files) before after r.0
-refused_tidy files count before after old_faults new_faults (refusals.TermsSpent term) r = as_before_tidy (formats_by files) before after r.0
+refused_tidy files count before after old_faults new_faults refusal r = as_before_tidy (formats_by files) before after r.0
 
 -- ---- commands were carried out
 

@@ -1,5 +1,5 @@
 -- How a run ends.
-use Rattle.std.proofs.Common.{◌≡◌, ◌⊎◌, ℕ, zero, suc, ◌<◌, ◌≤◌, ◌^◌, Bool, true, List, [], ◌∷◌, ◌++◌, Option, Some, None, inl, inr, arith, refl, sym, ap, ◌∙◌, subst}
+use Rattle.std.proofs.Common.{◌≡◌, ◌⊎◌, ℕ, suc, ◌<◌, ◌≤◌, ◌^◌, Bool, true, List, [], ◌∷◌, ◌++◌, Option, Some, None, inl, inr, arith, refl, sym, ap, ◌∙◌, subst}
 use Rattle.esr_model.specs.Values.{Bytes}
 use Rattle.esr_core.specs.Entry.{Step, Entry, Moment}
 use Rattle.esr_depot.specs.Image.{Image as Held}
@@ -13,7 +13,7 @@ use Rattle.esr_desk.specs.Verify.Tested.{AreTested}
 use Rattle.esr_repo.specs.Calm.{IsCalm}
 use Rattle.esr_quiet.specs.Asked.{asked_steps}
 use Rattle.esr_complete.specs.Lines.{steps_of}
-use Rattle.esr_report.specs.Status.{Ending, AllOk, SomeRefused, SwapFailed, BlobDamaged, NumbersSpent, ending, status_of}
+use Rattle.esr_report.specs.Status.{Ending, AllOk, ending, status_of}
 use Rattle.esr_run.specs.Checked.{asks_check}
 use Rattle.esr_run.specs.Verified.{AreWhole}
 use Rattle.esr_run.specs.Waits.{AreFew}
@@ -137,10 +137,7 @@ opened_run {S} {F} {H} {T} laws kept evidence files size workers moment lines qu
 
 not_wanting : (e : Ending) → status_of e ≡ 8 → ⊥
 not_wanting AllOk is = cc
-not_wanting SomeRefused is = cc
-not_wanting SwapFailed is = cc
-not_wanting (BlobDamaged name) is = cc
-not_wanting NumbersSpent is = cc
+not_wanting e is = cc
 
 pub verdict_opening : {S F H T : Type 0} (laws : Laws) (kept : KeptLaws S F H T) (evidence : Evidence S F H T) (files : Telling) (size workers moment : ℕ)
     (lines : List ScriptLine) (quiet : Bool) (before mid after : Look) (k : Kept) (history : List Entry) (faults : List (Fault S F H T))
@@ -217,10 +214,7 @@ verdict_stopped status text evidence given files reader before after old_faults 
     told_end status text (IsCauseOf evidence given files reader before after old_faults new_faults history faults) BadScript told (un, stop)
 verdict_stopped status text evidence given files reader before after old_faults new_faults history faults (Some (BadLine number)) told stop un =
     told_end status text (IsCauseOf evidence given files reader before after old_faults new_faults history faults) (BadLine number) told (un, stop)
-verdict_stopped status text evidence given files reader before after old_faults new_faults history faults (Some OpenFault) told stop un = absurd stop
-verdict_stopped status text evidence given files reader before after old_faults new_faults history faults (Some (Damaged name)) told stop un = absurd stop
-verdict_stopped status text evidence given files reader before after old_faults new_faults history faults (Some NoTerm) told stop un = absurd stop
-verdict_stopped status text evidence given files reader before after old_faults new_faults history faults (Some (Carried script entries)) told stop un = absurd stop
+verdict_stopped status text evidence given files reader before after old_faults new_faults history faults end told stop un = absurd stop
 
 -- from the opening on, with the words and the script
 with_script : {S F H T : Type 0} (evidence : Evidence S F H T) (given : Given) (files : Telling) (reader size workers : ℕ) (before after : Look)
@@ -232,10 +226,7 @@ with_script evidence given files reader size workers before after old_faults new
 with_script evidence given files reader size workers before after old_faults new_faults lines history faults OpenFault size_is workers_are is cause = ((lines, is), cause)
 with_script evidence given files reader size workers before after old_faults new_faults lines history faults (Damaged name) size_is workers_are is cause = ((lines, is), cause)
 with_script evidence given files reader size workers before after old_faults new_faults lines history faults NoTerm size_is workers_are is cause = ((lines, is), cause)
-with_script evidence given files reader size workers before after old_faults new_faults lines history faults BadWords size_is workers_are is cause = absurd cause
-with_script evidence given files reader size workers before after old_faults new_faults lines history faults Unreadable size_is workers_are is cause = absurd cause
-with_script evidence given files reader size workers before after old_faults new_faults lines history faults BadScript size_is workers_are is cause = absurd cause
-with_script evidence given files reader size workers before after old_faults new_faults lines history faults (BadLine number) size_is workers_are is cause = absurd cause
+with_script evidence given files reader size workers before after old_faults new_faults lines history faults end size_is workers_are is cause = absurd cause
 
 pub verdict_opened : {S F H T : Type 0} (status : ℕ) (text : Bytes) (evidence : Evidence S F H T) (given : Given) (files : Telling)
     (reader size workers : ℕ) (before after : Look) (old_faults new_faults : ℕ) (lines : List ScriptLine) (history : List Entry) (faults : List (Fault S F H T))
@@ -259,15 +250,13 @@ run_opened evidence given files size workers lines before after old_faults new_f
 
 -- a status above 1 goes before that of a failed write
 pub goes_before : (n : ℕ) → 1 < n → n ≡ exit_unprinted n
-goes_before zero above = omega (arith, above)
-goes_before (suc zero) above = omega (arith, above)
 goes_before (suc (suc n)) above = refl
+goes_before n above = omega (arith, above)
 
 -- and 0 and 1 don't
 pub goes_behind : (n : ℕ) → n ≤ 1 → 5 ≡ exit_unprinted n
-goes_behind zero le = refl
-goes_behind (suc zero) le = refl
 goes_behind (suc (suc n)) le = omega (arith, le)
+goes_behind n le = refl
 
 -- that of a run for which there was no memory stays
 pub stays_wanting : (status wanted : ℕ) (text : Bytes) (old new : Option Bytes) (old_faults new_faults : ℕ)

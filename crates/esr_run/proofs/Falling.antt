@@ -6,14 +6,15 @@ use Rattle.esr_core.specs.World.{World}
 use Rattle.esr_core.specs.Entry.{Step, Refusal, DeposedAt, AbortedBy, Refused, Moment}
 use Rattle.esr_core.specs.After.{swaps_record}
 use Rattle.esr_core.specs.Allowed.{Allowed, Blocks, ByFailedSwap, ByDelete}
-use Rattle.esr_core.specs.Refusing.{MayRefuse, RefusedSo, SwapFailed}
+use Rattle.esr_core.specs.Refusing.{MayRefuse, RefusedSo, SwapFailed, ByRule}
 use Rattle.esr_script.specs.declared.item.ScriptLine.{ScriptLine}
 use Rattle.esr_desk.specs.Start.{Start, Legal, formats_of, world_of}
 use Rattle.esr_quiet.specs.PrefixLaws.{legal_rest}
 use Rattle.esr_complete.specs.Lines.{steps_of}
-use Rattle.esr_drive.specs.Stopped.{StopsWork, SaidDeposed, SettleFell, DropFell, DeleteFell, WasStopped}
+use Rattle.esr_drive.specs.Stopped.{StopsWork, SaidDeposed, WasStopped}
 use Rattle.esr_run.specs.Laws.{Refusals}
 use Rattle.esr_run.specs.Made.{MadeFirst, WasLeft, HasFallen, AreDone}
+use Rattle.esr_core.specs.Laws.Rules.{never_rule}
 
 -- where a moment stands
 split_at : (l : List Moment) (x : Moment) → Has l x → (a : List Moment) × (b : List Moment) × (l ≡ a ++ x ∷ b)
@@ -25,7 +26,7 @@ split_at (y ∷ l) x (inr there) = let r = split_at l x there in (y ∷ r.0, r.1
 
 -- while no record swap has failed no step is refused as deposed
 none_says : (step : Step) (place : ℕ) → MayRefuse step (DeposedAt place) → ⊥
-none_says step place may = elim may [ ]
+none_says step place (ByRule command refusal rule) = never_rule command (DeposedAt place) refl rule
 
 no_abort : (by place : ℕ) → AbortedBy by ≡ DeposedAt place → ⊥
 no_abort by place e = cc
@@ -47,9 +48,7 @@ module _ (laws : Refusals) (s : Start) (alive : s.world.deposed ≡ false) (log 
 
   fell_by : (m : Moment) → Has log m → (step : Step) (refusal : Refusal) → m.entry.step ≡ step → m.entry.reply ≡ Refused refusal → StopsWork step refusal → (front back : List Moment) → log ≡ front ++ m ∷ back → SwapFailed log
   fell_by m there step refusal step_is says (SaidDeposed any place) front back is = fell_before front back m place is says
-  fell_by m there step refusal step_is says SettleFell front back is = record { moment = m; there = there; swap = ap swaps_record step_is; failed = says }
-  fell_by m there step refusal step_is says DropFell front back is = record { moment = m; there = there; swap = ap swaps_record step_is; failed = says }
-  fell_by m there step refusal step_is says DeleteFell front back is = record { moment = m; there = there; swap = ap swaps_record step_is; failed = says }
+  fell_by m there step refusal step_is says other front back is = record { moment = m; there = there; swap = ap swaps_record step_is; failed = says }
 
   pub fallen_by : (refusal : Refusal) → WasStopped log refusal → SwapFailed log
   fallen_by refusal was = let p = split_at log was.moment was.there in fell_by was.moment was.there was.moment.entry.step refusal refl was.same was.stops p.0 p.1 p.2

@@ -13,9 +13,10 @@ use Rattle.esr_drive.specs.Elections.{election, elections, elections_more}
 use Rattle.esr_quiet.specs.Asked.{asked_steps}
 use Rattle.esr_quiet.specs.Asking.{asked_append}
 use Rattle.esr_quiet.specs.Askers.{AsksOrElects, asker}
-use Rattle.esr_quiet.specs.RuleLaws.{never_rule}
+use Rattle.esr_core.specs.Laws.Rules.{never_rule}
 use Rattle.esr_quiet.specs.Smooth.{IsSmooth}
-use Rattle.esr_quiet.specs.Refusals.{IsByRule, IsSwapStep, IsOfRule, IsOfTerm, AreByRule}
+use Rattle.esr_core.specs.Refusing.{IsByRule}
+use Rattle.esr_quiet.specs.Refusals.{IsSwapStep, IsOfRule, IsOfTerm, AreByRule}
 use Rattle.esr_quiet.specs.PrefixLaws.{place_of, legal_at}
 use Rattle.esr_run.specs.Complete.{AreOfClient}
 
@@ -49,23 +50,20 @@ nobody k e = let is : suc k ≡ 0 = e in omega (arith, is)
 
 one_ask : (who : ℕ) (step : Step) → (AsksOrElects step → who ≡ 0) → asks_by step ≡ commands_by who step
 one_ask zero (AskStep command) own = refl
-one_ask zero step own = refl
 one_ask (suc k) (AskStep command) own = absurd (nobody k (own tt))
-one_ask (suc k) step own = refl
+one_ask who step own = refl
 
 one_election : (who : ℕ) (step : Step) → (AsksOrElects step → who ≡ 0) → elections_by step ≡ election who step
 one_election zero ElectStep own = refl
-one_election zero step own = refl
 one_election (suc k) ElectStep own = absurd (nobody k (own tt))
-one_election (suc k) step own = refl
+one_election who step own = refl
 
 one_take : (who : ℕ) (step : Step) (reply : Reply) → TakeTells step reply → ((refusal : Refusal) → step ≡ TakeStep → reply ≡ Refused refusal → ⊥) → empty_by who step reply ≡ idle_take who step reply
 one_take zero TakeStep NothingReady tells unrefused = refl
 one_take zero TakeStep (Gave ticket op unit) tells unrefused = refl
 one_take zero TakeStep (Refused refusal) tells unrefused = absurd (unrefused refusal refl refl)
 one_take zero TakeStep reply tells unrefused = absurd tells
-one_take zero step reply tells unrefused = refl
-one_take (suc k) step reply tells unrefused = refl
+one_take who step reply tells unrefused = refl
 
 -- ---- all of them
 

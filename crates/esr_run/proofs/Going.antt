@@ -29,10 +29,9 @@ pub err_told : (r : Answer) (e : StepRefusal) → r ≡ Err e → IsTold (Err e)
 err_told r e is told = subst IsTold (sym is) told
 
 told_made : (s : Start) (wanted : List Step) (mid new : List Moment) (r : Answer) → IsTold r → LineMade s wanted mid new r → GrewAsking s wanted mid new
-told_made s wanted mid new (Ok x) told h = h
 told_made s wanted mid new (Err steps.Memory) told h = absurd told
 told_made s wanted mid new (Err steps.TurnsSpent) told h = absurd told
-told_made s wanted mid new (Err (steps.Refused refusal)) told h = h
+told_made s wanted mid new r told h = h
 
 told_ended : (s : Start) (item : Item) (new : List Moment) (r : Answer) → IsTold r → LineRests s new r → (item ≡ items.Wait → WaitEnds s new r) → LineEnded s item new
 told_ended s item new (Ok x) told rests ended = inl (rests, ended)
@@ -47,16 +46,14 @@ told_checked item mid new (Err steps.TurnsSpent) told h check = absurd told
 told_checked item mid new (Err (steps.Refused refusal)) told h check = inr (h check)
 
 told_begun : (item : Item) (mid new : List Moment) (r : Answer) → IsTold r → (item ≡ items.Verify → VerifyBegins mid new r) → item ≡ items.Verify → HasBegun mid new
-told_begun item mid new (Ok x) told h verify = h verify
 told_begun item mid new (Err steps.Memory) told h verify = absurd told
 told_begun item mid new (Err steps.TurnsSpent) told h verify = absurd told
-told_begun item mid new (Err (steps.Refused refusal)) told h verify = h verify
+told_begun item mid new r told h verify = h verify
 
 pub told_may : (s : Start) (workers : ℕ) (checks : Bool) (new : List Moment) (r : Answer) → IsTold r → VerifiesOn s workers checks new r → MayVerify s workers checks new
-told_may s workers checks new (Ok x) told h = h
 told_may s workers checks new (Err steps.Memory) told h = absurd told
 told_may s workers checks new (Err steps.TurnsSpent) told h = absurd told
-told_may s workers checks new (Err (steps.Refused refusal)) told h = h
+told_may s workers checks new r told h = h
 
 -- so many lines were carried out, and this one
 pub line_front : (s : Start) (moment owed after : ℕ) (line : ScriptLine) (left lines : List ScriptLine) (old mid new : List Moment) (r : Answer) → 1 ≤ length left → line ≡ slice_index_or left 0 line → after ≡ owed_after line.item owed
@@ -95,7 +92,6 @@ turns_by new r is spent = subst (LineSpends new) is spent
 -- the next wait makes no more elections than there were lines
 owed_fits : (item : Item) (owed left all : ℕ) → owed + left ≤ all → 1 ≤ left → owed_after item owed + (left - 1) ≤ all
 owed_fits items.Failover owed left all fits some = let le : owed + left ≤ all = fits in let one : 1 ≤ left = some in omega (arith, le, one)
-owed_fits items.Wait owed left all fits some = let le : owed + left ≤ all = fits in omega (arith, le)
 owed_fits item owed left all fits some = let le : owed + left ≤ all = fits in omega (arith, le)
 
 rest_length : (left : List ScriptLine) → 1 ≤ length left → length (take (length left - 1) (drop 1 left)) ≡ length left - 1
@@ -136,7 +132,6 @@ end_done s old new (Err steps.TurnsSpent) some rests ended none = inr (inr (rest
 end_done s old new (Err (steps.Refused refusal)) some rests ended none = inr ended
 
 pub end_elected : (owed : ℕ) (old new : List Moment) (r : Answer) → IsEnd r → HasElected owed old new r → LineSpends new r → ElectedOr owed old new
-end_elected owed old new (Ok x) some h spent = inl h
 end_elected owed old new (Err steps.Memory) some h spent = absurd some
 end_elected owed old new (Err steps.TurnsSpent) some h spent = inr spent
-end_elected owed old new (Err (steps.Refused refusal)) some h spent = inl h
+end_elected owed old new r some h spent = inl h

@@ -67,8 +67,7 @@ pub refused_kept : {F : Type 0} (laws : Laws) (files : Telling) (count : F → �
     → IsOpenRefused count before after old_faults new_faults refusal → StaysKept (formats_by files) before after
 refused_kept laws files count before after old_faults new_faults refusals.Memory r = as_before_kept (formats_by files) before after r
 refused_kept laws files count before after old_faults new_faults (refusals.DepotFault fetch) r = ⊎_elim (λ same. as_before_kept (formats_by files) before after same) (λ failed. swap_failed_kept laws files before after failed) r.1
-refused_kept laws files count before after old_faults new_faults (refusals.Damaged name why) r = as_before_kept (formats_by files) before after r.0
-refused_kept laws files count before after old_faults new_faults (refusals.TermsSpent term) r = as_before_kept (formats_by files) before after r.0
+refused_kept laws files count before after old_faults new_faults refusal r = as_before_kept (formats_by files) before after r.0
 
 -- ---- the safe roots of an image
 

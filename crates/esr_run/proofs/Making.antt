@@ -128,18 +128,15 @@ module _ (laws : StepsStay) (s : Start) (numbered : HasNoTickets s) (ops : Track
 -- ---- turns that are spent
 
 pub spent_by : {X : Type 0} (s : Start) (old new : List Moment) (step : Step) (ok : X → Reply) (result : Result X StepRefusal) → s.earlier_turns ≡ 0 → Outcome s old new 0 step ok result → LineSpends new result
-spent_by s old new step ok (Ok x) earlier h = tt
-spent_by s old new step ok (Err steps.Memory) earlier h = tt
 spent_by s old new step ok (Err steps.TurnsSpent) earlier h = all_entries s new earlier h.1
-spent_by s old new step ok (Err (steps.Refused refusal)) earlier h = tt
+spent_by s old new step ok result earlier h = tt
 
 -- ---- a line that was refused
 
 -- a front of what it asks for was asked, and all of it where the history tells the refusal
 pub made_asked : (s : Start) (old new : List Moment) (step wanted : Step) (e : StepRefusal) → asks_of step ≡ wanted ∷ [] → Refusing s old new 0 step (told_refusal e) → LineMade {X = Unit} s (wanted ∷ []) old new (Err e)
-made_asked s old new step wanted steps.Memory asks h = record { first = []; rest = wanted ∷ []; grew = asking_refused s old new step None h; is = refl }
-made_asked s old new step wanted steps.TurnsSpent asks h = record { first = []; rest = wanted ∷ []; grew = asking_refused s old new step None h; is = refl }
 made_asked s old new step wanted (steps.Refused refusal) asks h = subst (λ (l : List Step). GrewAsking s l old new) asks (asking_refused s old new step (Some (refusal_of refusal)) h)
+made_asked s old new step wanted e asks h = record { first = []; rest = wanted ∷ []; grew = asking_refused s old new step None h; is = refl }
 
 pub made_refused : (s : Start) (old new : List Moment) (step : Step) (e : StepRefusal) → asks_of step ≡ step ∷ [] → Refusing s old new 0 step (told_refusal e) → LineMade {X = Unit} s (step ∷ []) old new (Err e)
 made_refused s old new step e asks h = made_asked s old new step step e asks h
@@ -153,10 +150,9 @@ made_nothing : (s : Start) (old new : List Moment) → MadeFirst s [] old new �
 made_nothing s old new h = subst (λ (l : List Step). GrewAsking s l old new) (none_first h.first h.rest h.is) h.grew
 
 pub made_none : (s : Start) (old new : List Moment) (r : Result Unit StepRefusal) → LineMade s [] old new r → GrewAsking s [] old new
-made_none s old new (Ok x) h = h
 made_none s old new (Err steps.Memory) h = made_nothing s old new h
 made_none s old new (Err steps.TurnsSpent) h = made_nothing s old new h
-made_none s old new (Err (steps.Refused refusal)) h = h
+made_none s old new r h = h
 
 -- ---- a wait
 
@@ -168,22 +164,18 @@ rests_waiting s old new (Err steps.TurnsSpent) earlier rest readers stopped none
 rests_waiting s old new (Err (steps.Refused refusal)) earlier rest readers stopped none = inr (inl (refusal_of refusal, stopped))
 
 pub spends_waiting : (s : Start) (new : List Moment) (result : Result Unit StepRefusal) → s.earlier_turns ≡ 0 → IfErr result (StoppedIn s new) → LineSpends new result
-spends_waiting s new (Ok x) earlier stopped = tt
-spends_waiting s new (Err steps.Memory) earlier stopped = tt
 spends_waiting s new (Err steps.TurnsSpent) earlier stopped = all_entries s new earlier stopped
-spends_waiting s new (Err (steps.Refused refusal)) earlier stopped = tt
+spends_waiting s new result earlier stopped = tt
 
 pub made_waiting : (s : Start) (old new : List Moment) (result : Result Unit StepRefusal) → GrewAsking s [] old new → LineMade s [] old new result
-made_waiting s old new (Ok x) g = g
 made_waiting s old new (Err steps.Memory) g = record { first = []; rest = []; grew = g; is = refl }
 made_waiting s old new (Err steps.TurnsSpent) g = record { first = []; rest = []; grew = g; is = refl }
-made_waiting s old new (Err (steps.Refused refusal)) g = g
+made_waiting s old new result g = g
 
 pub wait_ends : (s : Start) (new : List Moment) (result : Result Unit StepRefusal) → OnOk result (NoneReady s new) → IfErr result (StoppedIn s new) → WaitEnds s new result
 wait_ends s new (Ok x) ready stopped = ready
-wait_ends s new (Err steps.Memory) ready stopped = tt
-wait_ends s new (Err steps.TurnsSpent) ready stopped = tt
 wait_ends s new (Err (steps.Refused refusal)) ready stopped = inl (refusal_of refusal, stopped)
+wait_ends s new result ready stopped = tt
 
 -- ---- line after line
 
@@ -343,10 +335,9 @@ IsTold (Err steps.TurnsSpent) = ⊥
 IsTold (Err (steps.Refused refusal)) = Unit {0}
 
 wait_counts : (owed : ℕ) (mid new : List Moment) (r : Result Unit StepRefusal) → IsTold r → HasElected owed mid new r → elections new ≡ elections mid + owed
-wait_counts owed mid new (Ok x) told h = h
 wait_counts owed mid new (Err steps.Memory) told h = absurd told
 wait_counts owed mid new (Err steps.TurnsSpent) told h = absurd told
-wait_counts owed mid new (Err (steps.Refused refusal)) told h = h
+wait_counts owed mid new r told h = h
 
 -- a line that elects nobody
 other_counts : (owed : ℕ) (mid new : List Moment) → elections new ≡ elections mid → elections new + owed ≡ (elections mid + owed) + 0
@@ -360,9 +351,8 @@ line_counts owed item mid new r told h = other_counts owed mid new h
 -- a line makes no more than are owed
 pub some_counts : (owed : ℕ) (mid new : List Moment) (r : Result Unit StepRefusal) → HasElected owed mid new r → elections new ≤ elections mid + owed
 some_counts owed mid new (Ok x) h = let all : elections new ≡ elections mid + owed = h in omega (arith, all)
-some_counts owed mid new (Err steps.Memory) h = h
-some_counts owed mid new (Err steps.TurnsSpent) h = h
 some_counts owed mid new (Err (steps.Refused refusal)) h = let all : elections new ≡ elections mid + owed = h in omega (arith, all)
+some_counts owed mid new r h = h
 
 none_counts : (owed : ℕ) (mid new : List Moment) → elections new ≡ elections mid → elections new ≤ elections mid + owed
 none_counts owed mid new h = let same : elections new ≡ elections mid = h in omega (arith, same)
@@ -632,8 +622,6 @@ done_then s moment owed lines old mid new made g works counts done closes none =
 -- a line that stopped
 pub made_stopped : (s : Start) (moment owed : ℕ) (left lines : List ScriptLine) (wanted : List Step) (old mid new : List Moment) (e : StepRefusal) → AsksFirst moment left wanted → Front s moment owed left lines old mid
     → LineMade {X = Unit} s wanted mid new (Err e) → (e ≡ steps.Memory) ⊎ (e ≡ steps.TurnsSpent) → MadeFirst s (steps_of moment lines) old new
-made_stopped s moment owed left lines wanted old mid new steps.Memory asks f made which = front_first s moment owed left lines wanted old mid new asks f made
-made_stopped s moment owed left lines wanted old mid new steps.TurnsSpent asks f made which = front_first s moment owed left lines wanted old mid new asks f made
 made_stopped s moment owed left lines wanted old mid new (steps.Refused refusal) asks f made which = absurd (⊎_elim (λ e. no_memory refusal e) (λ e. no_turns refusal e) which)
   where
     no_memory : (refusal : EntryRefusal) → steps.Refused refusal ≡ steps.Memory → ⊥
@@ -641,6 +629,7 @@ made_stopped s moment owed left lines wanted old mid new (steps.Refused refusal)
 
     no_turns : (refusal : EntryRefusal) → steps.Refused refusal ≡ steps.TurnsSpent → ⊥
     no_turns refusal e = cc
+made_stopped s moment owed left lines wanted old mid new e asks f made which = front_first s moment owed left lines wanted old mid new asks f made
 
 -- at its beginning no ticket of a repository is out
 none_in : (s : Start) → HasNoTickets s → HasNoReaders s → AreIn s []

@@ -11,7 +11,7 @@ use Rattle.esr_script.specs.declared.refusal.ScriptRefusal.{ScriptRefusal}
 use Rattle.esr_script.specs.declared.refusal.ScriptRefusal.TheVariants.{TooLong, BadLine}
 use Rattle.esr_model.specs.Lists.{Has-append}
 use Rattle.esr_targets.specs.Lines.{AreNumbered}
-use Rattle.esr_run.specs.Asked.{Wanted, ReadScript, OneCommand, NoCommand, NoRun}
+use Rattle.esr_run.specs.Asked.{Wanted, ReadScript, OneCommand}
 use Rattle.esr_run.specs.Causes.{AreWanted, IsScriptFor}
 
 abbrev pub Read : Type 0
@@ -72,8 +72,7 @@ numbered_script bytes lines false e = rise_from (lines_of bytes) [] 1 lines (rec
 numbered_wanted : (wanted : Wanted) (script : Option Bytes) (lines : List ScriptLine) → AreWanted wanted script lines → AreNumbered lines
 numbered_wanted (ReadScript size) script lines are = numbered_script are.bytes lines (nat_lt 4194304 (length are.bytes)) are.read
 numbered_wanted (OneCommand size item) script lines are = subst AreNumbered (sym are) ((λ later m. absurd m), tt)
-numbered_wanted NoCommand script lines are = absurd are
-numbered_wanted NoRun script lines are = absurd are
+numbered_wanted wanted script lines are = absurd are
 
 pub numbered_lines : (wanted : Wanted) (script : Option Bytes) (lines : List ScriptLine) → IsScriptFor wanted script lines → AreNumbered lines
 numbered_lines wanted script lines is = numbered_wanted wanted script lines is.are

@@ -2,8 +2,8 @@
 use Rattle.std.proofs.Common.{◌≡◌, ℕ, ◌+◌, ◌-◌, ◌≤◌, List, [], ◌∷◌, ◌++◌, length, take, drop, Option, Some, None, sym, ap, ◌∙◌, refl, subst, arith, append-nil}
 use Rattle.std.proofs.lemmas.Grind.{common_steps}
 use Rattle.std.proofs.lemmas.List.{take_all, length-append}
-use Rattle.std.specs.Io.KnownBytes.{Consumes, Keeps, IsAtEnd}
-use Rattle.std.proofs.KnownBytes.{Consumes-trans, Consumes-kept}
+use Rattle.std.specs.Io.KnownBytes.{Consumes, IsAtEnd}
+use Rattle.std.proofs.KnownBytes.{Consumes-trans}
 use Rattle.esr_run.specs.Script.{AreBytes}
 use Rattle.esr_run.specs.Causes.{IsReadInPart}
 use Rattle.esr_run.specs.Stops.{IsKept}
@@ -33,23 +33,12 @@ read_full None new kept took full = record { bytes = kept; bytes_are = tt; kept_
 read_full (Some xs) None kept took full = absurd took
 read_full (Some xs) (Some ys) kept took full = record { bytes = xs; bytes_are = refl; kept_is = sym (ap (λ (l : List ℕ). take 4194305 l) took ∙ front_is 4194305 kept ys full) }
 
--- how much was read, where the last piece is in it or nothing more was given
-pub in_part : (old new : Option (List ℕ)) (kept : List ℕ) → Consumes old new kept → length kept ≤ 4194305 → IsReadInPart old new
-in_part old new kept took few = record { bytes = kept; took = took; few = few }
-
 pub in_part_more : (old mid new : Option (List ℕ)) (kept piece : List ℕ) → Consumes old mid kept → Consumes mid new piece → length kept + length piece ≤ 4194305 → IsReadInPart old new
 in_part_more old mid new kept piece took more few = record { bytes = kept ++ piece; took = Consumes-trans old mid new kept piece took more; few = omega (arith, few, length-append kept piece) }
 
 pub nil_of : (xs : List ℕ) → length xs ≡ 0 → xs ≡ []
 nil_of [] e = refl
 nil_of (x ∷ xs) e = absurd (cc)
-
-pub in_part_kept : (old mid new : Option (List ℕ)) (kept : List ℕ) → Consumes old mid kept → Keeps mid new → length kept ≤ 4194305 → IsReadInPart old new
-in_part_kept old mid new kept took keeps few = in_part old new kept (Consumes-kept old mid new kept took keeps) few
-
--- what a buffer has after a read
-pub buffer_after : (len : ℕ) (new old : List ℕ) → length new ≡ length old → len ≡ length old → take len (new ++ drop (length new) old) ≡ new
-buffer_after len new old same is = grind (arith, common_steps)
 
 -- what is left to be written
 pub whole_more : (text front rest : List ℕ) (n : ℕ) → text ≡ front ++ rest → text ≡ (front ++ take n rest) ++ take (length rest - n) (drop n rest)

@@ -47,10 +47,6 @@ good_script size told kept lines k good = record {
 -- or one that can't
 pub bad_script : (size : ℕ) (told : Option Bytes) (old new : ℕ) (kept : Bytes) (e : Stop) → IsKept told kept → IsBadIn (script_of kept) e → StoppedBy (ReadScript size) told old new (end_of e)
 bad_script size told old new kept stops.Memory k bad = tt
-bad_script size told old new kept stops.BadWords k bad = absurd bad
-bad_script size told old new kept stops.Unreadable k bad = absurd bad
 bad_script size told old new kept stops.BadScript k bad = (tt, (k.bytes, k.bytes_are, sym (kept_reads told kept k) ∙ bad))
 bad_script size told old new kept (stops.BadLine number) k bad = (k.bytes, k.bytes_are, ap bad_line (sym (kept_reads told kept k)) ∙ bad)
-bad_script size told old new kept stops.OpenFault k bad = absurd bad
-bad_script size told old new kept (stops.Damaged name) k bad = absurd bad
-bad_script size told old new kept stops.NoTerm k bad = absurd bad
+bad_script size told old new kept e k bad = absurd bad

@@ -25,7 +25,7 @@ use Rattle.esr_repo.specs.Deposed.{AreDeposedSo}
 use Rattle.esr_complete.specs.Lines.{steps_of}
 use Rattle.esr_run.specs.Asked.{Wanted, ReadScript, OneCommand, NoCommand, NoRun, AsksScript, wanted_of, part_size_of, workers_of}
 use Rattle.esr_run.specs.Script.{AreBytes, first_bad, bad_line}
-use Rattle.esr_run.specs.Ends.{RunEnd, BadWords, Unreadable, BadScript, BadLine, OpenFault, Damaged, NoTerm, Carried}
+use Rattle.esr_run.specs.Ends.{RunEnd, BadWords, Unreadable, BadScript, BadLine, Carried}
 use Rattle.esr_run.specs.Start.{Telling, is_calm_by, start_of, LegalRun}
 use Rattle.esr_run.specs.Complete.{IsQuietFor, IsLastTerm}
 use Rattle.esr_run.specs.Laws.{Laws, KeptLaws, QuietLaws}
@@ -138,8 +138,7 @@ same_wanted (ReadScript size) script old new a b reads first second =
     (subst (λ (x : Bytes). script_of x ≡ Ok a) (bytes_one r.bytes script first.bytes r.told first.bytes_are) first.read)
     (subst (λ (x : Bytes). script_of x ≡ Ok b) (bytes_one r.bytes script second.bytes r.told second.bytes_are) second.read)
 same_wanted (OneCommand size item) script old new a b reads first second = first ∙ sym second
-same_wanted NoCommand script old new a b reads first second = absurd first
-same_wanted NoRun script old new a b reads first second = absurd first
+same_wanted wanted script old new a b reads first second = absurd first
 
 pub complete_opened : {S F H T : Type 0} (evidence : Evidence S F H T) (given : Given) (files : Telling) (reader size workers : ℕ)
     (lines : List ScriptLine) (before after : Look) (old_out new_out : ℕ) (history : List Entry) (faults : List (Fault S F H T)) (status : ℕ)
@@ -176,13 +175,9 @@ not_stopped (ReadScript size) script old new lines (BadLine number) reads is sto
 not_stopped (OneCommand size item) script old new lines BadWords reads is stop = absurd cc
 not_stopped (OneCommand size item) script old new lines Unreadable reads is stop = stop.0
 not_stopped (OneCommand size item) script old new lines BadScript reads is stop = stop.0
-not_stopped (OneCommand size item) script old new lines (BadLine number) reads is stop = stop
 not_stopped NoCommand script old new lines end reads is stop = is.are
 not_stopped NoRun script old new lines end reads is stop = is.are
-not_stopped wanted script old new lines OpenFault reads is stop = stop
-not_stopped wanted script old new lines (Damaged name) reads is stop = stop
-not_stopped wanted script old new lines NoTerm reads is stop = stop
-not_stopped wanted script old new lines (Carried entries history) reads is stop = stop
+not_stopped wanted script old new lines end reads is stop = stop
 
 pub complete_stopped : {S F H T : Type 0} (evidence : Evidence S F H T) (given : Given) (files : Telling) (reader : ℕ) (before after : Look)
     (old_out new_out : ℕ) (history : List Entry) (faults : List (Fault S F H T)) (status : ℕ) (text : Bytes) (end : Option RunEnd)

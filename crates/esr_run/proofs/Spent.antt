@@ -69,8 +69,7 @@ opened_first f image w (OpenedRecord cluster text root is reads safe) = refl
 
 same_election : (who : ℕ) (step : Step) → terms_by who step ≡ election who step
 same_election zero ElectStep = refl
-same_election zero step = refl
-same_election (suc k) step = refl
+same_election who step = refl
 
 same_elections : (log : List Moment) → terms_in log ≡ elections log
 same_elections [] = refl

@@ -4,7 +4,7 @@ use Rattle.std.specs.Prelude.{◌==◌, ◌&&◌, if◌then◌else◌}
 use Rattle.std.proofs.Math.Nat.{mul-le-mul, mul-le-mul_left, mul-le-mul_right}
 use Rattle.esr_model.specs.Values.{Formats}
 use Rattle.esr_core.specs.World.{World}
-use Rattle.esr_core.specs.Entry.{Snapshot, Restore, Clone, DeleteSnapshots, Cleanup, Step, AskStep, Moment}
+use Rattle.esr_core.specs.Entry.{Snapshot, Step, AskStep, Moment}
 use Rattle.esr_bounds.specs.Most.{most_of_final}
 use Rattle.esr_bounds.specs.Units.{shards_by, shards_in}
 use Rattle.esr_bounds.specs.Work.{shards_work, op_work, work_of_step, work_of, most_of_copy, asks_in}
@@ -52,10 +52,7 @@ no_weight weight false x rest n p q = plain n (sum_of weight rest) q
 one_weight : (weight : Step → ℕ) → WeighsCommands weight → (who : ℕ) (step : Step) (rest : List Step) → (AsksOrElects step → who ≡ 0)
     → weight (bare_step step) + sum_of weight rest ≡ sum_of weight (if (who == 0) && is_line_ask step then as_asked step ∷ rest else rest)
 one_weight weight of zero (AskStep (Snapshot name indices moment)) rest own = refl
-one_weight weight of zero (AskStep (Restore name place)) rest own = refl
-one_weight weight of zero (AskStep (Clone source name names moment taken)) rest own = refl
-one_weight weight of zero (AskStep (DeleteSnapshots names)) rest own = refl
-one_weight weight of zero (AskStep Cleanup) rest own = refl
+one_weight weight of zero (AskStep other) rest own = refl
 one_weight weight of zero step rest own = no_weight weight (is_line_ask step) (as_asked step) rest (weight (bare_step step)) (of (as_asked step) tt) (of (bare_step step) tt)
 one_weight weight of (suc k) (AskStep command) rest own = absurd (nobody k (own tt))
 one_weight weight of (suc k) step rest own = no_weight weight ((suc k == 0) && is_line_ask step) (as_asked step) rest (weight (bare_step step)) (of (as_asked step) tt) (of (bare_step step) tt)

@@ -144,9 +144,8 @@ waited_whole s workers checks old new alone h w = subst (AreWhole s workers chec
 pub line_verifies : {X : Type 0} (s : Start) (workers : ℕ) (checks : Bool) (old new : List Moment) (step : Step) (ok : X → Reply) (r : Result X StepRefusal) → AsksLine step → s.alone ≡ true → Outcome s old new 0 step ok r
     → MayVerify s workers checks old → VerifiesOn s workers checks new r
 line_verifies s workers checks old new step ok (Ok x) asks alone h may = stepped_may s workers checks old new step (ok x) asks alone h may
-line_verifies s workers checks old new step ok (Err steps.Memory) asks alone h may = waited_whole s workers checks old new alone h.0 may.whole
-line_verifies s workers checks old new step ok (Err steps.TurnsSpent) asks alone h may = waited_whole s workers checks old new alone h.0 may.whole
 line_verifies s workers checks old new step ok (Err (steps.Refused refusal)) asks alone h may = stepped_may s workers checks old new step (Refused (refusal_of refusal)) asks alone h.0 may
+line_verifies s workers checks old new step ok r asks alone h may = waited_whole s workers checks old new alone h.0 may.whole
 
 -- ---- a wait
 
@@ -181,16 +180,14 @@ pub waits_whole : (s : Start) (workers : ℕ) (checks : Bool) (old new : List Mo
 waits_whole s workers checks old new w was = subst (AreWhole s workers checks) (sym w.is) (whole_more s workers checks old w.more w.all was)
 
 pub verifies_by : {X : Type 0} (s : Start) (workers : ℕ) (checks : Bool) (new : List Moment) (result : Result X StepRefusal) → MayVerify s workers checks new → VerifiesOn s workers checks new result
-verifies_by s workers checks new (Ok x) may = may
 verifies_by s workers checks new (Err steps.Memory) may = may.whole
 verifies_by s workers checks new (Err steps.TurnsSpent) may = may.whole
-verifies_by s workers checks new (Err (steps.Refused refusal)) may = may
+verifies_by s workers checks new result may = may
 
 pub verified_whole : (s : Start) (workers : ℕ) (checks : Bool) (new : List Moment) (result : Result Unit StepRefusal) → VerifiesOn s workers checks new result → AreWhole s workers checks new
-verified_whole s workers checks new (Ok x) h = h.whole
 verified_whole s workers checks new (Err steps.Memory) h = h
 verified_whole s workers checks new (Err steps.TurnsSpent) h = h
-verified_whole s workers checks new (Err (steps.Refused refusal)) h = h.whole
+verified_whole s workers checks new result h = h.whole
 
 -- ---- where nothing has happened yet
 
@@ -258,20 +255,15 @@ line_result (Err (units.Stopped refusal)) = Err refusal
 line_result (Err units.Stale) = Ok tt
 
 pub verify_made : (s : Start) (old new : List Moment) (r : Result Unit UnitRefusal) → AsksOne old new r → (Legal s old → Legal s new) → LineMade s (ReadStep DrawTest ∷ []) old new (line_result r)
-verify_made s old new (Ok x) h legal = begun_asks s old new h legal
-verify_made s old new (Err (units.Failed why)) h legal = begun_asks s old new h legal
-verify_made s old new (Err (units.Stopped (steps.Refused refusal))) h legal = begun_asks s old new h legal
 verify_made s old new (Err (units.Stopped steps.Memory)) h legal = front_asked s old new h legal
 verify_made s old new (Err (units.Stopped steps.TurnsSpent)) h legal = front_asked s old new h legal
 verify_made s old new (Err units.Stale) h legal = absurd h
+verify_made s old new r h legal = begun_asks s old new h legal
 
 pub verify_begins : (old new : List Moment) (r : Result Unit UnitRefusal) → AsksOne old new r → VerifyBegins old new (line_result r)
-verify_begins old new (Ok x) h = h
-verify_begins old new (Err (units.Failed why)) h = h
-verify_begins old new (Err (units.Stopped (steps.Refused refusal))) h = h
-verify_begins old new (Err (units.Stopped steps.Memory)) h = h
 verify_begins old new (Err (units.Stopped steps.TurnsSpent)) h = h
 verify_begins old new (Err units.Stale) h = absurd h
+verify_begins old new r h = h
 
 -- its steps, one after another: each is of who 0 and reads, and restores no shard
 abbrev pub NoShard : Read → Type 0
@@ -308,12 +300,10 @@ one_reads old new (NotBegun is) = record { more = []; is = is ∙ sym (append-ni
 one_reads old new (Begun draw rest is drawer drew all) = begun_reads old new (record { draw = draw; rest = rest; is = is; drawer = drawer; drew = drew; all = all })
 
 asked_reads : {X : Type 0} (old new : List Moment) (r : Result X UnitRefusal) → AsksOne old new r → ReadsOnly old new
-asked_reads old new (Ok x) h = begun_reads old new h
-asked_reads old new (Err (units.Failed why)) h = begun_reads old new h
-asked_reads old new (Err (units.Stopped (steps.Refused refusal))) h = begun_reads old new h
 asked_reads old new (Err (units.Stopped steps.Memory)) h = one_reads old new h
 asked_reads old new (Err (units.Stopped steps.TurnsSpent)) h = one_reads old new h
 asked_reads old new (Err units.Stale) h = absurd h
+asked_reads old new r h = begun_reads old new h
 
 -- ---- it leaves tickets
 
@@ -326,12 +316,8 @@ TurnsAre s new (units.Failed why) = Unit {0}
 TurnsAre s new units.Stale = Unit {0}
 
 pub turns_of : {S F H T : Type 0} (evidence : Evidence S F H T) (s : Start) (old new : List Moment) (r : Result Unit UnitRefusal) → IfErr r (IsVerifyRefused evidence s old new) → IfErr r (TurnsAre s new)
-turns_of evidence s old new (Ok x) h = tt
-turns_of evidence s old new (Err (units.Failed why)) h = tt
-turns_of evidence s old new (Err (units.Stopped steps.Memory)) h = tt
 turns_of evidence s old new (Err (units.Stopped steps.TurnsSpent)) h = h
-turns_of evidence s old new (Err units.Stale) h = tt
-turns_of evidence s old new (Err (units.Stopped (steps.Refused refusal))) h = tt
+turns_of evidence s old new r h = tt
 
 module _ (laws : StepsStay) (s : Start) (numbered : HasNoTickets s) where
   read_in : (log : List Moment) (m : Moment) (read : Read) → m.entry.who ≡ 0 → m.entry.step ≡ ReadStep read → Legal s (log ++ m ∷ []) → AreIn s log → AreIn s (log ++ m ∷ [])
@@ -357,20 +343,14 @@ module _ (laws : StepsStay) (s : Start) (numbered : HasNoTickets s) where
       by r turns (subst (AreIn s) (sym h.is) (reads_in old h.more h.all (subst (Legal s) h.is legal) rest))
     where
       by : (x : Result Unit UnitRefusal) → IfErr x (TurnsAre s new) → AreIn s new → LineRests s new (line_result x)
-      by (Ok x) t now = now
-      by (Err (units.Failed why)) t now = now
       by (Err (units.Stopped (steps.Refused refusal))) t now = inl now
       by (Err (units.Stopped steps.Memory)) t now = tt
       by (Err (units.Stopped steps.TurnsSpent)) t now = all_entries s new earlier t
-      by (Err units.Stale) t now = now
+      by x t now = now
 
 pub verify_spends : (s : Start) (new : List Moment) (r : Result Unit UnitRefusal) → s.earlier_turns ≡ 0 → IfErr r (TurnsAre s new) → LineSpends new (line_result r)
-verify_spends s new (Ok x) earlier t = tt
-verify_spends s new (Err (units.Failed why)) earlier t = tt
-verify_spends s new (Err (units.Stopped (steps.Refused refusal))) earlier t = tt
-verify_spends s new (Err (units.Stopped steps.Memory)) earlier t = tt
 verify_spends s new (Err (units.Stopped steps.TurnsSpent)) earlier t = all_entries s new earlier t
-verify_spends s new (Err units.Stale) earlier t = tt
+verify_spends s new r earlier t = tt
 
 -- ---- it takes no unit
 

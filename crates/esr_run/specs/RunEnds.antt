@@ -18,15 +18,13 @@ are_sources sources targets size quiet l w = record {
     by : (o : Option FileList) (there : Option Bool) → (is_some o || is_absent there) ≡ true → TellSame o (if is_absent there then None else o) ⊎ ((there ≡ Some false) × ((if is_absent there then None else o) ≡ None))
     by (Some x) None e = inl (x, refl, refl)
     by (Some x) (Some true) e = inl (x, refl, refl)
-    by (Some x) (Some false) e = inr (refl, refl)
     by None None e = absurd cc
     by None (Some true) e = absurd cc
-    by None (Some false) e = inr (refl, refl)
+    by o there e = inr (refl, refl)
 
     both : (a : Bool) (o : Option Bool) → (a && unwrap_or o false) ≡ true → (a ≡ true) × (o ≡ Some true)
-    both true None e = absurd cc
     both true (Some b) e = (refl, ap (λ (x : Bool). Some x) e)
-    both false o e = absurd cc
+    both a o e = absurd cc
 
 pub is_outside : (sources : SourcesTold) (targets : TargetsTold) (size : ℕ) (quiet : Bool) (l : Look) (w : World) → (1 ≤ size) × (size ≤ 2 ^ 30) → IsOutside (start_of (telling sources targets) size quiet l w) sources targets size
 is_outside sources targets size quiet l w sized = record { told = are_sources sources targets size quiet l w; sure = refl; tells = refl; size = refl; sized = sized }

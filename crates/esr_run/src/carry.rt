@@ -25,15 +25,12 @@ ghost use Rattle.esr_run.specs.Script.{is_carried, first_bad};
 
 use crate::command::{delete_of, snapshot_of};
 use crate::law::{steps_stay, work_leaves};
-use esr_depot::Depot;
-use esr_desk::{Client, CloneAsk, StepRefusal, UnitRefusal};
+use esr_desk::{Client, CloneAsk, Sole, StepRefusal, UnitRefusal};
 use esr_drive::{Crew, Outside, sit};
 use esr_names::{IndexNames, SnapName};
 use esr_ops::Command;
-use esr_repo::Told;
 use esr_script::{Item, Kind, ScriptLine};
 use esr_seq::Text;
-use esr_solo::Solo;
 use esr_source::{Gate, Sources, Targets};
 use std::alloc::{AllocError, Global};
 use std::sync::Wait;
@@ -250,30 +247,31 @@ fn carry_step<Q: Client>(
 }
 
 /// Works all units that are ready with the crew, beside its elections.
-fn wait<D, K: Told + Send + Sync, S: Sources, T: Targets, G: Gate, R: Threads + Wait + Sync>(
+fn wait<Q: Sole + Send, S, T, G: Gate, R: Threads + Wait + Sync>(
     rt: &R,
     alloc: Global,
-    desk: Solo<D, K, S::Shard, T::Target>,
+    desk: Q,
     outside: &Outside<'_, S, T, G>,
     crew: Crew,
-) -> (Solo<D, K, S::Shard, T::Target>, Result<(), StepRefusal>)
+) -> (Q, Result<(), StepRefusal>)
 where
-    D: Depot + Send,
-    D::Stage: Send,
-    D::Fetch: Send,
-    requires waits { MayWait K.start (S.told outside.now.sources.now) (T.told outside.now.targets.now) outside.now.part_size crew.workers }
-    requires legal { Legal K.start desk }
-    requires earlier { K.start.earlier_turns ≡ 0 }
-    ensures made { LineMade K.start [] desk result.0 result.1 }
-    ensures rests { AreIn K.start desk → LineRests K.start result.0 result.1 }
-    ensures spent { LineSpends result.0 result.1 }
-    ensures ended { WaitEnds K.start result.0 result.1 }
-    ensures verified { (checks : Bool) → MayVerify K.start crew.workers checks desk → VerifiesOn K.start crew.workers checks result.0 result.1 }
-    ensures whole { (workers : ℕ) (checks : Bool) → AreWhole K.start workers checks desk → AreWhole K.start workers checks result.0 }
-    ensures closed { NoneOpen K.start desk → NoneOpen K.start result.0 }
-    ensures takes { idle_takes result.0 ≤ idle_takes desk + crew.workers }
-    ensures elects { HasElected crew.elections desk result.0 result.1 }
-    ensures only { WaitsOnly desk result.0 }
+    S: Sources<Shard = Q::Shard>,
+    T: Targets<Target = Q::Target>,
+    Q::Stage: Send,
+    Q::Fetch: Send,
+    requires waits { MayWait Q.start (S.told outside.now.sources.now) (T.told outside.now.targets.now) outside.now.part_size crew.workers }
+    requires legal { Legal Q.start (Q.seen desk) }
+    requires earlier { Q.start.earlier_turns ≡ 0 }
+    ensures made { LineMade Q.start [] (Q.seen desk) (Q.seen result.0) result.1 }
+    ensures rests { AreIn Q.start (Q.seen desk) → LineRests Q.start (Q.seen result.0) result.1 }
+    ensures spent { LineSpends (Q.seen result.0) result.1 }
+    ensures ended { WaitEnds Q.start (Q.seen result.0) result.1 }
+    ensures verified { (checks : Bool) → MayVerify Q.start crew.workers checks (Q.seen desk) → VerifiesOn Q.start crew.workers checks (Q.seen result.0) result.1 }
+    ensures whole { (workers : ℕ) (checks : Bool) → AreWhole Q.start workers checks (Q.seen desk) → AreWhole Q.start workers checks (Q.seen result.0) }
+    ensures closed { NoneOpen Q.start (Q.seen desk) → NoneOpen Q.start (Q.seen result.0) }
+    ensures takes { idle_takes (Q.seen result.0) ≤ idle_takes (Q.seen desk) + crew.workers }
+    ensures elects { HasElected crew.elections (Q.seen desk) (Q.seen result.0) result.1 }
+    ensures only { WaitsOnly (Q.seen desk) (Q.seen result.0) }
 {
     work_leaves();
     sit(rt, alloc, desk, outside, crew)
@@ -286,35 +284,36 @@ fn is_wait(item: &Item) -> bool
 }
 
 /// Carries out a line: a wait with the crew.
-fn carry_line<D, K: Told + Send + Sync, S: Sources, T: Targets, G: Gate, R: Threads + Wait + Sync>(
+fn carry_line<Q: Client + Sole + Send, S, T, G: Gate, R: Threads + Wait + Sync>(
     rt: &R,
     alloc: Global,
-    desk: Solo<D, K, S::Shard, T::Target>,
+    desk: Q,
     item: &Item,
     outside: &Outside<'_, S, T, G>,
     crew: Crew,
     moment: u64,
-) -> (Solo<D, K, S::Shard, T::Target>, Result<(), StepRefusal>)
+) -> (Q, Result<(), StepRefusal>)
 where
-    D: Depot + Send,
-    D::Stage: Send,
-    D::Fetch: Send,
+    S: Sources<Shard = Q::Shard>,
+    T: Targets<Target = Q::Target>,
+    Q::Stage: Send,
+    Q::Fetch: Send,
     requires carried { is_carried item.now ≡ true }
-    requires waits { MayWait K.start (S.told outside.now.sources.now) (T.told outside.now.targets.now) outside.now.part_size crew.workers }
-    requires idle { NoneOpen K.start desk }
-    requires legal { Legal K.start desk }
-    requires numbered { HasNoTickets K.start }
-    requires earlier { K.start.earlier_turns ≡ 0 }
-    ensures made { LineMade K.start (steps_of_item moment item.now) desk result.0 result.1 }
-    ensures rests { AreIn K.start desk → LineRests K.start result.0 result.1 }
-    ensures spent { LineSpends result.0 result.1 }
-    ensures checked { item.now ≡ Check → CheckEnds desk result.0 result.1 }
-    ensures ended { item.now ≡ Wait → WaitEnds K.start result.0 result.1 }
-    ensures takes { idle_takes result.0 ≤ idle_takes desk + waits_in crew.workers item.now }
-    ensures elects { LineElects crew.elections item.now desk result.0 result.1 }
-    ensures begun { item.now ≡ Verify → VerifyBegins desk result.0 result.1 }
-    ensures only { AddsOnly item.now desk result.0 }
-    ensures verified { (checks : Bool) → (is_check item.now ≡ true → checks ≡ true) → MayVerify K.start crew.workers checks desk → VerifiesOn K.start crew.workers checks result.0 result.1 }
+    requires waits { MayWait Q.start (S.told outside.now.sources.now) (T.told outside.now.targets.now) outside.now.part_size crew.workers }
+    requires idle { NoneOpen Q.start (Q.seen desk) }
+    requires legal { Legal Q.start (Q.seen desk) }
+    requires numbered { HasNoTickets Q.start }
+    requires earlier { Q.start.earlier_turns ≡ 0 }
+    ensures made { LineMade Q.start (steps_of_item moment item.now) (Q.seen desk) (Q.seen result.0) result.1 }
+    ensures rests { AreIn Q.start (Q.seen desk) → LineRests Q.start (Q.seen result.0) result.1 }
+    ensures spent { LineSpends (Q.seen result.0) result.1 }
+    ensures checked { item.now ≡ Check → CheckEnds (Q.seen desk) (Q.seen result.0) result.1 }
+    ensures ended { item.now ≡ Wait → WaitEnds Q.start (Q.seen result.0) result.1 }
+    ensures takes { idle_takes (Q.seen result.0) ≤ idle_takes (Q.seen desk) + waits_in crew.workers item.now }
+    ensures elects { LineElects crew.elections item.now (Q.seen desk) (Q.seen result.0) result.1 }
+    ensures begun { item.now ≡ Verify → VerifyBegins (Q.seen desk) (Q.seen result.0) result.1 }
+    ensures only { AddsOnly item.now (Q.seen desk) (Q.seen result.0) }
+    ensures verified { (checks : Bool) → (is_check item.now ≡ true → checks ≡ true) → MayVerify Q.start crew.workers checks (Q.seen desk) → VerifiesOn Q.start crew.workers checks (Q.seen result.0) result.1 }
 {
     if is_wait(item) {
         return wait(rt, alloc, desk, outside, crew);
@@ -343,31 +342,32 @@ fn owed_after(item: &Item, owed: u64) -> u64
 
 /// Carries out the lines, and answers how many elections the next wait makes. A refusal that the history tells is no reason to
 /// stop; none is carried out once the desk's turns are spent.
-fn carry_lines<D, K: Told + Send + Sync, S: Sources, T: Targets, G: Gate, R: Threads + Wait + Sync>(
+fn carry_lines<Q: Client + Sole + Send, S, T, G: Gate, R: Threads + Wait + Sync>(
     rt: &R,
     alloc: Global,
-    desk: Solo<D, K, S::Shard, T::Target>,
+    desk: Q,
     lines: &[ScriptLine],
     outside: &Outside<'_, S, T, G>,
     workers: u32,
     moment: u64,
-) -> (Solo<D, K, S::Shard, T::Target>, Result<u64, AllocError>)
+) -> (Q, Result<u64, AllocError>)
 where
-    D: Depot + Send,
-    D::Stage: Send,
-    D::Fetch: Send,
+    S: Sources<Shard = Q::Shard>,
+    T: Targets<Target = Q::Target>,
+    Q::Stage: Send,
+    Q::Fetch: Send,
     requires carried { first_bad lines.now ≡ None }
-    requires waits { MayWait K.start (S.told outside.now.sources.now) (T.told outside.now.targets.now) outside.now.part_size workers }
-    requires may { MayVerify K.start workers (asks_check lines.now) desk }
-    requires numbered { HasNoTickets K.start }
-    requires earlier { K.start.earlier_turns ≡ 0 }
-    ensures made { MadeFirst K.start (steps_of moment lines.now) desk result.0 }
-    ensures rests { IfOk result.1 (λ owed. AreIn K.start desk → AreMade K.start moment owed lines.now desk result.0 ⊎ WasLeft K.start moment owed lines.now desk result.0) }
-    ensures whole { AreWhole K.start workers (asks_check lines.now) result.0 }
-    ensures takes { idle_takes result.0 ≤ idle_takes desk + waits_of workers lines.now }
-    ensures owes { IfOk result.1 (λ owed. elections result.0 + owed ≤ elections desk + failovers_of lines.now) }
-    ensures elects { elections result.0 ≤ elections desk + failovers_of lines.now }
-    ensures apart { AreIn K.start desk → AskedUnlessStopped K.start desk result.0 }
+    requires waits { MayWait Q.start (S.told outside.now.sources.now) (T.told outside.now.targets.now) outside.now.part_size workers }
+    requires may { MayVerify Q.start workers (asks_check lines.now) (Q.seen desk) }
+    requires numbered { HasNoTickets Q.start }
+    requires earlier { Q.start.earlier_turns ≡ 0 }
+    ensures made { MadeFirst Q.start (steps_of moment lines.now) (Q.seen desk) (Q.seen result.0) }
+    ensures rests { IfOk result.1 (λ owed. AreIn Q.start (Q.seen desk) → AreMade Q.start moment owed lines.now (Q.seen desk) (Q.seen result.0) ⊎ WasLeft Q.start moment owed lines.now (Q.seen desk) (Q.seen result.0)) }
+    ensures whole { AreWhole Q.start workers (asks_check lines.now) (Q.seen result.0) }
+    ensures takes { idle_takes (Q.seen result.0) ≤ idle_takes (Q.seen desk) + waits_of workers lines.now }
+    ensures owes { IfOk result.1 (λ owed. elections (Q.seen result.0) + owed ≤ elections (Q.seen desk) + failovers_of lines.now) }
+    ensures elects { elections (Q.seen result.0) ≤ elections (Q.seen desk) + failovers_of lines.now }
+    ensures apart { AreIn Q.start (Q.seen desk) → AskedUnlessStopped Q.start (Q.seen desk) (Q.seen result.0) }
 {
     is_count(lines.len());
     let mut desk = desk;
@@ -395,28 +395,29 @@ where
 }
 
 /// The wait at the script's end.
-fn work_out<D, K: Told + Send + Sync, S: Sources, T: Targets, G: Gate, R: Threads + Wait + Sync>(
+fn work_out<Q: Sole + Send, S, T, G: Gate, R: Threads + Wait + Sync>(
     rt: &R,
     alloc: Global,
-    desk: Solo<D, K, S::Shard, T::Target>,
+    desk: Q,
     outside: &Outside<'_, S, T, G>,
     crew: Crew,
-) -> (Solo<D, K, S::Shard, T::Target>, Result<(), AllocError>)
+) -> (Q, Result<(), AllocError>)
 where
-    D: Depot + Send,
-    D::Stage: Send,
-    D::Fetch: Send,
-    requires waits { MayWait K.start (S.told outside.now.sources.now) (T.told outside.now.targets.now) outside.now.part_size crew.workers }
-    requires legal { Legal K.start desk }
-    requires earlier { K.start.earlier_turns ≡ 0 }
-    ensures grew { GrewAsking K.start [] desk result.0 }
-    ensures done { OnOk result.1 (AreIn K.start desk → IsIdle K.start result.0 ⊎ HasStopped result.0) }
-    ensures whole { (workers : ℕ) (checks : Bool) → AreWhole K.start workers checks desk → AreWhole K.start workers checks result.0 }
-    ensures closed { NoneOpen K.start desk → NoneOpen K.start result.0 }
-    ensures takes { idle_takes result.0 ≤ idle_takes desk + crew.workers }
-    ensures elected { OnOk result.1 ((elections result.0 ≡ elections desk + crew.elections) ⊎ (2 ^ 33 ≤ length result.0)) }
-    ensures elects { elections result.0 ≤ elections desk + crew.elections }
-    ensures only { WaitsOnly desk result.0 }
+    S: Sources<Shard = Q::Shard>,
+    T: Targets<Target = Q::Target>,
+    Q::Stage: Send,
+    Q::Fetch: Send,
+    requires waits { MayWait Q.start (S.told outside.now.sources.now) (T.told outside.now.targets.now) outside.now.part_size crew.workers }
+    requires legal { Legal Q.start (Q.seen desk) }
+    requires earlier { Q.start.earlier_turns ≡ 0 }
+    ensures grew { GrewAsking Q.start [] (Q.seen desk) (Q.seen result.0) }
+    ensures done { OnOk result.1 (AreIn Q.start (Q.seen desk) → IsIdle Q.start (Q.seen result.0) ⊎ HasStopped (Q.seen result.0)) }
+    ensures whole { (workers : ℕ) (checks : Bool) → AreWhole Q.start workers checks (Q.seen desk) → AreWhole Q.start workers checks (Q.seen result.0) }
+    ensures closed { NoneOpen Q.start (Q.seen desk) → NoneOpen Q.start (Q.seen result.0) }
+    ensures takes { idle_takes (Q.seen result.0) ≤ idle_takes (Q.seen desk) + crew.workers }
+    ensures elected { OnOk result.1 ((elections (Q.seen result.0) ≡ elections (Q.seen desk) + crew.elections) ⊎ (2 ^ 33 ≤ length (Q.seen result.0))) }
+    ensures elects { elections (Q.seen result.0) ≤ elections (Q.seen desk) + crew.elections }
+    ensures only { WaitsOnly (Q.seen desk) (Q.seen result.0) }
 {
     let (desk, answer) = wait(rt, alloc, desk, outside, crew);
     match answer {
@@ -430,37 +431,31 @@ where
 }
 
 /// Carries out the lines, and works all units that are ready then.
-pub(crate) fn carry<
-    D,
-    K: Told + Send + Sync,
-    S: Sources,
-    T: Targets,
-    G: Gate,
-    R: Threads + Wait + Sync,
->(
+pub(crate) fn carry<Q: Client + Sole + Send, S, T, G: Gate, R: Threads + Wait + Sync>(
     rt: &R,
     alloc: Global,
-    desk: Solo<D, K, S::Shard, T::Target>,
+    desk: Q,
     lines: &[ScriptLine],
     outside: &Outside<'_, S, T, G>,
     workers: u32,
     moment: u64,
-) -> (Solo<D, K, S::Shard, T::Target>, Result<(), AllocError>)
+) -> (Q, Result<(), AllocError>)
 where
-    D: Depot + Send,
-    D::Stage: Send,
-    D::Fetch: Send,
+    S: Sources<Shard = Q::Shard>,
+    T: Targets<Target = Q::Target>,
+    Q::Stage: Send,
+    Q::Fetch: Send,
     requires carried { first_bad lines.now ≡ None }
-    requires waits { MayWait K.start (S.told outside.now.sources.now) (T.told outside.now.targets.now) outside.now.part_size workers }
-    requires may { MayVerify K.start workers (asks_check lines.now) desk }
-    requires numbered { HasNoTickets K.start }
-    requires earlier { K.start.earlier_turns ≡ 0 }
-    ensures made { MadeFirst K.start (steps_of moment lines.now) desk result.0 }
-    ensures done { OnOk result.1 (AreIn K.start desk → AreDone K.start moment lines.now desk result.0 ⊎ WasLeft K.start moment 0 lines.now desk result.0) }
-    ensures whole { AreWhole K.start workers (asks_check lines.now) result.0 }
-    ensures takes { idle_takes result.0 ≤ idle_takes desk + (waits_of workers lines.now + workers) }
-    ensures elects { elections result.0 ≤ elections desk + failovers_of lines.now }
-    ensures apart { AreIn K.start desk → AskedUnlessStopped K.start desk result.0 }
+    requires waits { MayWait Q.start (S.told outside.now.sources.now) (T.told outside.now.targets.now) outside.now.part_size workers }
+    requires may { MayVerify Q.start workers (asks_check lines.now) (Q.seen desk) }
+    requires numbered { HasNoTickets Q.start }
+    requires earlier { Q.start.earlier_turns ≡ 0 }
+    ensures made { MadeFirst Q.start (steps_of moment lines.now) (Q.seen desk) (Q.seen result.0) }
+    ensures done { OnOk result.1 (AreIn Q.start (Q.seen desk) → AreDone Q.start moment lines.now (Q.seen desk) (Q.seen result.0) ⊎ WasLeft Q.start moment 0 lines.now (Q.seen desk) (Q.seen result.0)) }
+    ensures whole { AreWhole Q.start workers (asks_check lines.now) (Q.seen result.0) }
+    ensures takes { idle_takes (Q.seen result.0) ≤ idle_takes (Q.seen desk) + (waits_of workers lines.now + workers) }
+    ensures elects { elections (Q.seen result.0) ≤ elections (Q.seen desk) + failovers_of lines.now }
+    ensures apart { AreIn Q.start (Q.seen desk) → AskedUnlessStopped Q.start (Q.seen desk) (Q.seen result.0) }
 {
     let (desk, owed) = carry_lines(rt, alloc, desk, lines, outside, workers, moment);
     match owed {

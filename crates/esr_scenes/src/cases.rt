@@ -1,7 +1,7 @@
 //! Cases are played. They stand apart by empty lines. The first line of one is `KIND NAME: SENTENCE`, and each other is
 //! `LINE = ANSWER`, or a line without an answer. A line that begins with `#` is a remark. What has the kind `container` is no case:
 //! its lines are for cases that name it.
-use crate::play::complain;
+use crate::play::{Place, tell_difference};
 use std::alloc::Global;
 use std::io;
 use std::process::ExitCode;
@@ -58,28 +58,35 @@ fn cut_answer(line: &str) -> (&str, &str) {
     line.split_once(" = ").unwrap_or((line, ""))
 }
 
-/// Prints that the line of that number, in the case of that name, is answered otherwise than it says.
-fn tell_wrong(
-    rt: &(impl Print + Eprint),
-    alloc: Global,
-    (name, number): (&str, u64),
-    (asked, wanted): (&str, &str),
-    came: &str,
-) -> io::Result<()> {
-    let text = format!(in alloc;
-        "{asked}\n  {name}, line {number}\n  wanted: {wanted}\n  came:   {came}\n"
-    )?;
-    complain(rt, text.as_str())
-}
-
 impl Counts {
     fn count(&mut self, has_answer: bool, is_wrong: bool) {
         self.answers = self.answers.saturating_add(u64::from(has_answer));
         self.wrong = self.wrong.saturating_add(u64::from(is_wrong));
     }
 
-    /// Plays a case, whose title has that number among the lines of all cases. Of each line that is answered otherwise than it
-    /// says it prints so.
+    /// Plays a line of a case. Where it is answered otherwise than it says it prints so.
+    fn play_line<P: CasePlayer>(
+        &mut self,
+        rt: &(impl Print + Eprint),
+        alloc: Global,
+        cases: &str,
+        place: Place<'_>,
+        line: &str,
+        player: &mut P,
+    ) -> io::Result<()> {
+        let (asked, wanted) = cut_answer(line);
+        let mut came = String::new(alloc);
+        player.answer(alloc, cases, asked, &mut came);
+        let is_wrong = came.as_str() != wanted;
+        self.count(!wanted.is_empty(), is_wrong);
+        if is_wrong {
+            tell_difference(rt, alloc, place, (asked, wanted), came.as_str())
+        } else {
+            Ok(())
+        }
+    }
+
+    /// Plays a case, whose title has that number among the lines of all cases.
     fn play<P: CasePlayer>(
         &mut self,
         rt: &(impl Print + Eprint),
@@ -94,20 +101,43 @@ impl Counts {
         let mut number = title;
         for line in case.lines.lines() {
             number = number.saturating_add(1);
-            if line.starts_with('#') {
-                continue;
-            }
-            let (asked, wanted) = cut_answer(line);
-            let mut came = String::new(alloc);
-            player.answer(alloc, cases, asked, &mut came);
-            let is_wrong = came.as_str() != wanted;
-            self.count(!wanted.is_empty(), is_wrong);
-            if is_wrong {
-                let at = (case.name, number);
-                tell_wrong(rt, alloc, at, (asked, wanted), came.as_str())?;
+            if !line.starts_with('#') {
+                let place = Place {
+                    name: case.name,
+                    over: "",
+                    number,
+                };
+                self.play_line(rt, alloc, cases, place, line, player)?;
             }
         }
         Ok(())
+    }
+
+    /// Plays the case of a text, unless it is none: an empty text, a remark, or the lines of a container.
+    fn play_text<P: CasePlayer>(
+        &mut self,
+        rt: &(impl Print + Eprint),
+        alloc: Global,
+        cases: &str,
+        text: &str,
+        title: u64,
+        player: &mut P,
+    ) -> io::Result<()> {
+        let case = case_of(text);
+        if text.is_empty() || text.starts_with('#') || case.kind == "container" {
+            Ok(())
+        } else {
+            self.play(rt, alloc, cases, case, title, player)
+        }
+    }
+
+    /// Prints how many cases and answers there were, and gives the exit status.
+    fn end(self, rt: &impl Print) -> io::Result<ExitCode> {
+        println!(rt;
+            "{} cases, {} answers, {} wrong",
+            self.cases, self.answers, self.wrong
+        )?;
+        Ok(ExitCode::from(u8::from(self.wrong > 0)))
     }
 }
 
@@ -126,16 +156,9 @@ pub fn play_cases<P: CasePlayer>(
     };
     let mut number = 1u64;
     for text in cases.split("\n\n") {
-        let case = case_of(text);
-        if !text.is_empty() && !text.starts_with('#') && case.kind != "container" {
-            counts.play(rt, alloc, cases, case, number, player)?;
-        }
+        counts.play_text(rt, alloc, cases, text, number, player)?;
         let length = text.lines().count() as u64;
         number = number.saturating_add(length).saturating_add(1);
     }
-    println!(rt;
-        "{} cases, {} answers, {} wrong",
-        counts.cases, counts.answers, counts.wrong
-    )?;
-    Ok(ExitCode::from(u8::from(counts.wrong > 0)))
+    counts.end(rt)
 }

@@ -1,4 +1,5 @@
 //! A scene is played.
+use crate::answers::{say, say_number};
 use crate::scene::{FIRST_LINE, Scene, scene_of, unquoted};
 use std::alloc::Global;
 use std::io;
@@ -40,20 +41,45 @@ pub fn complain(rt: &(impl Print + Eprint), text: &str) -> io::Result<()> {
     print!(rt; "{text}")
 }
 
-/// Says which line didn't hold, what was wanted and what came. The call is said first, since it may be long.
-fn tell(
+/// Where a line stands: the name of its scene and what that is played over, or the name of its case and nothing, and its number.
+#[derive(Clone, Copy)]
+pub(crate) struct Place<'a> {
+    pub(crate) name: &'a str,
+    pub(crate) over: &'a str,
+    pub(crate) number: u64,
+}
+
+/// Adds where a line stands.
+fn say_place(line: &mut String, place: Place<'_>) {
+    if place.over.is_empty() {
+        say(line, place.name);
+    } else {
+        say(line, "scene `");
+        say(line, place.name);
+        say(line, "` over ");
+        say(line, place.over);
+    }
+    say(line, ", line ");
+    say_number(line, place.number);
+}
+
+/// Prints which line is answered otherwise than it says, what was wanted and what came. The call is said first, since it may be long.
+pub(crate) fn tell_difference(
     rt: &(impl Print + Eprint),
     alloc: Global,
-    scene: Scene<'_>,
-    place: usize,
+    place: Place<'_>,
     (call, wanted): (&str, &str),
     came: &str,
 ) -> io::Result<()> {
-    let number = place.saturating_add(FIRST_LINE);
-    let (name, over) = (scene.name, scene.over);
-    let text = format!(in alloc;
-        "{call}\n  scene `{name}` over {over}, line {number}\n  wanted: {wanted}\n  came:   {came}\n"
-    )?;
+    let mut text = String::new(alloc);
+    say(&mut text, call);
+    say(&mut text, "\n  ");
+    say_place(&mut text, place);
+    say(&mut text, "\n  wanted: ");
+    say(&mut text, wanted);
+    say(&mut text, "\n  came:   ");
+    say(&mut text, came);
+    say(&mut text, "\n");
     complain(rt, text.as_str())
 }
 
@@ -78,6 +104,27 @@ impl Tally {
         println!(rt; "scene `{}`: {why}", scene.name)
     }
 
+    /// Plays the line at that place of a scene. Where it doesn't hold it says so.
+    fn play_line<S: Subject>(
+        &mut self,
+        rt: &(impl Print + Eprint),
+        alloc: Global,
+        place: Place<'_>,
+        line: &str,
+        subject: &mut S,
+    ) -> io::Result<()> {
+        let (call, wanted) = call_of(line);
+        let mut came = String::new(alloc);
+        subject.call(alloc, call, &mut came);
+        self.lines = self.lines.saturating_add(1);
+        if came.as_str().trim() == wanted {
+            Ok(())
+        } else {
+            self.failures = self.failures.saturating_add(1);
+            tell_difference(rt, alloc, place, (call, wanted), came.as_str())
+        }
+    }
+
     /// Plays a scene over a subject. Of each line that doesn't hold it says so.
     pub fn play<S: Subject>(
         &mut self,
@@ -88,16 +135,13 @@ impl Tally {
     ) -> io::Result<()> {
         self.scenes = self.scenes.saturating_add(1);
         for (place, text) in scene.lines.lines().enumerate() {
-            if is_comment(text.trim()) {
-                continue;
-            }
-            let (call, wanted) = call_of(text);
-            let mut came = String::new(alloc);
-            subject.call(alloc, call, &mut came);
-            self.lines = self.lines.saturating_add(1);
-            if came.as_str().trim() != wanted {
-                self.failures = self.failures.saturating_add(1);
-                tell(rt, alloc, scene, place, (call, wanted), came.as_str())?;
+            if !is_comment(text.trim()) {
+                let place = Place {
+                    name: scene.name,
+                    over: scene.over,
+                    number: place.saturating_add(FIRST_LINE) as u64,
+                };
+                self.play_line(rt, alloc, place, text, subject)?;
             }
         }
         Ok(())

@@ -25,20 +25,25 @@ pub fn source_line(line: &str) -> SourceLine<'_> {
     }
 }
 
-/// The files of a shard in memory, from names and texts.
-fn files_of(alloc: Global, texts: &str) -> Result<Seq<MemFile>, AllocError> {
-    let mut files = Seq::new(alloc);
+/// The file in memory of `NAME=TEXT`.
+fn file_of(alloc: Global, text: &str) -> Result<MemFile, AllocError> {
+    let (name, bytes) = text.split_once('=').unwrap_or((text, ""));
+    MemFile::new(alloc, name, bytes.as_bytes())
+}
+
+/// Adds the files of a shard in memory, from names and texts.
+fn add_files(alloc: Global, files: &mut Seq<MemFile>, texts: &str) -> Result<(), AllocError> {
     for text in texts.split_whitespace() {
-        let (name, bytes) = text.split_once('=').unwrap_or((text, ""));
-        files.push(MemFile::new(alloc, name, bytes.as_bytes())?)?;
+        files.push(file_of(alloc, text)?)?;
     }
-    Ok(files)
+    Ok(())
 }
 
 /// The shard in memory of a line.
 pub fn source_of(alloc: Global, line: &str) -> Result<MemSource, AllocError> {
     let told = source_line(line);
-    let files = files_of(alloc, told.files)?;
+    let mut files = Seq::new(alloc);
+    add_files(alloc, &mut files, told.files)?;
     let number = told.shard.parse().unwrap_or(0);
     let address = Address::new(alloc, told.place, told.index, number)?;
     Ok(MemSource { address, files })

@@ -3,7 +3,7 @@ use std::alloc::{AllocError, AllocFailed};
 use thiserror::Error;
 
 /// What is wrong with a line, in the order in which it is looked for.
-#[derive(Clone, Copy, Debug, PartialEq, Eq)]
+#[derive(Clone, Copy, Debug)]
 pub enum Why {
     /// A byte that is not from 32 to 126.
     Byte,
@@ -22,7 +22,7 @@ pub enum Why {
 }
 
 /// Why there is no script.
-#[derive(Clone, Copy, Debug, PartialEq, Eq, Error)]
+#[derive(Clone, Copy, Debug, Error)]
 pub enum ScriptRefusal {
     #[error("out of memory")]
     Memory,
@@ -35,7 +35,7 @@ pub enum ScriptRefusal {
 }
 
 /// Why the words of the command line ask for nothing.
-#[derive(Clone, Copy, Debug, PartialEq, Eq, Error)]
+#[derive(Clone, Copy, Debug, Error)]
 pub enum WordsRefusal {
     #[error("out of memory")]
     Memory,
@@ -45,7 +45,7 @@ pub enum WordsRefusal {
 }
 
 /// Why the words of a line give no item.
-#[derive(Clone, Copy, Debug, PartialEq, Eq)]
+#[derive(Clone, Copy)]
 pub(crate) enum Fault {
     Memory,
     Bad(Why),

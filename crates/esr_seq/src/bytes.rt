@@ -9,9 +9,16 @@ use std::cmp::Ordering;
 use std::marker::Model;
 
 /// Bytes in order.
-#[derive(Debug, Drop)]
+#[derive(Debug)]
 pub struct Bytes {
     bytes: Vec<u8>,
+}
+
+impl Drop for Bytes {
+    // Not derived: each crate above would prove a derived one again.
+    fn drop(self) {
+        let Bytes { bytes: _bytes } = self;
+    }
 }
 
 impl Model for Bytes {
@@ -61,7 +68,8 @@ impl Bytes {
     pub fn into_vec(self) -> Vec<u8>
         ensures { result.items ≡ self }
     {
-        self.bytes
+        let Bytes { bytes } = self;
+        bytes
     }
 
     /// Appends a byte. Where memory is wanting the bytes stay.

@@ -7,9 +7,16 @@ use std::alloc::{AllocError, AllocFailed, Global};
 use std::marker::Model;
 
 /// Values in order.
-#[derive(Debug, Drop)]
+#[derive(Debug)]
 pub struct Seq<T> {
     items: Vec<T>,
+}
+
+impl<T: Drop> Drop for Seq<T> {
+    // Not derived: each crate above would prove a derived one again.
+    fn drop(self) {
+        let Seq { items: _items } = self;
+    }
 }
 
 impl<T> Model for Seq<T> {
@@ -50,7 +57,8 @@ impl<T> Seq<T> {
     pub fn into_vec(self) -> Vec<T>
         ensures { result.items ≡ self }
     {
-        self.items
+        let Seq { items } = self;
+        items
     }
 
     /// Appends a value. Where memory is wanting the list stays, and the value comes back.

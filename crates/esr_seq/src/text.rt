@@ -10,9 +10,16 @@ use std::cmp::Ordering;
 use std::marker::Model;
 
 /// A text in UTF-8, which a contract sees as its bytes.
-#[derive(Debug, Drop)]
+#[derive(Debug)]
 pub struct Text {
     text: String,
+}
+
+impl Drop for Text {
+    // Not derived: each crate above would prove a derived one again.
+    fn drop(self) {
+        let Text { text: _text } = self;
+    }
 }
 
 impl Model for Text {
@@ -53,7 +60,8 @@ impl Text {
     pub fn into_string(self) -> String
         ensures { string_bytes result ≡ self }
     {
-        self.text
+        let Text { text } = self;
+        text
     }
 
     /// Appends a copy of a text. Where memory is wanting the text stays.

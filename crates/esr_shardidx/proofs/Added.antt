@@ -8,7 +8,7 @@ use Rattle.esr_shardidx.specs.declared.entry.FileEntry.{FileEntry}
 use Rattle.esr_shardidx.specs.declared.index.SnapList.{SnapList}
 use Rattle.esr_shardidx.specs.Entries.{IsEntry}
 use Rattle.esr_shardidx.specs.Snapshots.{SnapValue, has_name, AreSnapFiles, IsShardSnap}
-use Rattle.esr_shardidx.specs.Indices.{IndexValue, is_id, repeats, has_uuid, names_file, is_named, has_file, IsShardIndex, insert_file, insert_files, name_of, list_of_snap, with_snap_of}
+use Rattle.esr_shardidx.specs.Indices.{IndexValue, is_id, repeats, has_uuid, names_file, is_named, has_file, IsShardIndex, insert_file, insert_files, name_of, list_of_snap}
 use Rattle.esr_shardidx.specs.FileOrder.{all_map}
 use Rattle.esr_shardidx.specs.RoundTrip.{entries_of}
 use Rattle.esr_shardidx.proofs.Files.{insert_files-all, insert_files-rises, insert_files-keeps, insert_file-own}
@@ -71,9 +71,3 @@ added v s index snap fresh =
           (all_map (λ (e : FileEntry) (h : is_named v.snapshots e ≡ true). still_named v.snapshots (list_of_snap s) e h) v.files index.named)
           (all_map (λ (e : FileEntry) (h : list_any (is_id e.name) (map name_of s.files) ≡ true). now_named v.snapshots (list_of_snap s) e h) s.files (own_named s.files s.files (λ v here. here)));
     }
-
-pub with_snap_of-is : (v : IndexValue) (s : SnapValue) → IsShardIndex v → IsShardSnap s → IsShardIndex (with_snap_of v s)
-with_snap_of-is v s index snap = elim (cases_Bool (list_any (has_uuid s.uuid) v.snapshots)) [
-  | inl there ↦ rw there index
-  | inr fresh ↦ rw fresh (added v s index snap fresh)
-]

@@ -107,9 +107,8 @@ number_told s e j k first second same =
 
 same_file : (t u : Bool) (s r : ShardId) (x y : Id) (j k : ℕ) → cond t (Whole s x) (Part s x j) ≡ cond u (Whole r y) (Part r y k) → x ≡ y
 same_file true true s r x y j k same = cc
-same_file true false s r x y j k same = cc
 same_file false true s r x y j k same = cc
-same_file false false s r x y j k same = cc
+same_file t u s r x y j k same = cc
 
 pub file_told : (s r : ShardId) (e f : FileEntry) (j k : ℕ) → part_name s e j ≡ part_name r f k → e.name ≡ f.name
 file_told s r e f j k same = same_file (nat_le e.print.len e.part_size) (nat_le f.print.len f.part_size) s r e.name f.name j k same

@@ -1,12 +1,12 @@
 -- Entries that rise by id, and what is kept of them.
-use Rattle.std.proofs.Common.{◌≡◌, suc, ◌-◌, ◌≤◌, ◌==◌, nat_lt, true, false, List, [], ◌∷◌, ◌++◌, length, slice_get, insert, add-one, refl, ap, arith, inl, inr}
+use Rattle.std.proofs.Common.{◌≡◌, suc, ◌-◌, ◌≤◌, ◌==◌, nat_lt, true, false, List, [], ◌∷◌, ◌++◌, length, refl, arith, inl, inr}
 use Rattle.std.specs.List.{list_any, AllByRecursion}
 use Rattle.std.proofs.lemmas.Bool.{cases_Bool, ltb-false, eqb-false, eq-eqb, or_left, or_right, or_parts}
 use Rattle.esr_names.specs.declared.ids.Id.{Id}
 use Rattle.esr_shardidx.specs.declared.entry.FileEntry.{FileEntry}
 use Rattle.esr_shardidx.specs.Entries.{last_of, id_falls}
 use Rattle.esr_shardidx.specs.Snapshots.{has_name}
-use Rattle.esr_shardidx.specs.Indices.{Rises, insert_file, insert_files, has_file, place_of, is_at}
+use Rattle.esr_shardidx.specs.Indices.{Rises, insert_file, insert_files, has_file}
 use Rattle.esr_shardidx.specs.FileOrder.{all_push, or_cases, Below, Above, insert_file-all, insert_file-rises}
 
 -- ---- entries that rise
@@ -60,19 +60,3 @@ insert_file-own e (f ∷ fs) = elim (cases_Bool (nat_lt f.name.number e.name.num
 pub insert_files-keeps : (fs es : List FileEntry) (u : Id) → has_file fs u ≡ true → has_file (insert_files fs es) u ≡ true
 insert_files-keeps fs [] u has = has
 insert_files-keeps fs (e ∷ es) u has = insert_files-keeps (insert_file e fs) es u (insert_file-keeps e fs u has)
-
--- ---- the place of one more entry
-
-pub insert_file-there : (e : FileEntry) (fs : List FileEntry) → is_at e.name (slice_get fs (place_of e.name fs)) ≡ true → insert_file e fs ≡ fs
-insert_file-there e [] there = cc
-insert_file-there e (f ∷ fs) there = elim (cases_Bool (nat_lt f.name.number e.name.number)) [
-  | inl less ↦ rw less (ap (λ (xs : List FileEntry). f ∷ xs) (insert_file-there e fs (rw (less, add-one) at there)))
-  | inr least ↦ let same : (f.name.number == e.name.number) ≡ true = rw least at there in rw (least, same) refl
-]
-
-pub insert_file-at : (e : FileEntry) (fs : List FileEntry) → is_at e.name (slice_get fs (place_of e.name fs)) ≡ false → insert_file e fs ≡ insert fs (place_of e.name fs) e
-insert_file-at e [] other = refl
-insert_file-at e (f ∷ fs) other = elim (cases_Bool (nat_lt f.name.number e.name.number)) [
-  | inl less ↦ rw (less, add-one) (ap (λ (xs : List FileEntry). f ∷ xs) (insert_file-at e fs (rw (less, add-one) at other)))
-  | inr least ↦ let apart : (f.name.number == e.name.number) ≡ false = rw least at other in rw (least, apart) refl
-]

@@ -1,11 +1,10 @@
 -- Marks of the files that lists have.
-use Rattle.std.proofs.Common.{◌≡◌, ◌≢◌, ℕ, zero, suc, ◌+◌, ◌<◌, ◌==◌, ◌||◌, not, Bool, true, false, cond, List, [], ◌∷◌, ◌++◌, length, filter, drop, get_or, get_or-set_same, get_or-set_other, slice_get, set, replicate, Option, Some, None, Result, Ok, Err, refl, sym, ap, ◌∙◌, subst, arith, inl, inr}
+use Rattle.std.proofs.Common.{◌≡◌, ◌≢◌, ℕ, zero, suc, ◌+◌, ◌<◌, ◌==◌, ◌||◌, not, Bool, true, false, cond, List, [], ◌∷◌, ◌++◌, length, filter, drop, get_or, get_or-set_same, get_or-set_other, slice_get, set, replicate, Option, Some, None, Ok, Err, refl, sym, ap, ◌∙◌, subst, arith, inl, inr}
 use Rattle.std.specs.List.{list_any, list_all}
 use Rattle.std.proofs.lemmas.List.{append_assoc, drop_more, length-set}
 use Rattle.std.proofs.lemmas.Bool.{cases_Bool, cases_eq, eqb-true, eq-eqb, ne_eqb, and_parts, not-true, or_right}
 use Rattle.std.proofs.lemmas.List.Folds.{list_any-append}
 use Rattle.esr_names.specs.declared.ids.Id.{Id}
-use Rattle.esr_json.specs.declared.refusal.Reason.{Reason}
 use Rattle.esr_json.specs.declared.refusal.Reason.TheVariants.{Duplicate, Unlisted}
 use Rattle.esr_shardidx.specs.declared.entry.FileEntry.{FileEntry}
 use Rattle.esr_shardidx.specs.declared.index.SnapList.{SnapList}
@@ -48,10 +47,6 @@ other_place : (files : List FileEntry) (u : Id) (i j : ℕ) (e : FileEntry) → 
 other_place files u i j e rises at is apart =
     let found = some_at u (slice_get files i) at in
     ne_eqb u.number e.name.number (λ same. apart (same_place files j i e found.0 rises is found.1 (sym same ∙ sym found.2)))
-
--- an entry that is at a place is there under its own id
-has_own : (files : List FileEntry) (j : ℕ) (e : FileEntry) → slice_get files j ≡ Some e → has_file files e.name ≡ true
-has_own files j e is = there_at e.name files j (ap (is_at e.name) is ∙ eq-eqb e.name.number e.name.number refl)
 
 absent_place : (files : List FileEntry) (u : Id) (j : ℕ) (e : FileEntry) → has_file files u ≡ false → slice_get files j ≡ Some e → is_id e.name u ≡ false
 absent_place files u j e none is = elim (cases_Bool (is_id e.name u)) [
@@ -121,9 +116,8 @@ turn_tells files lists us turn u i marks at h =
 -- ---- the first list, and the next one
 
 zeros : (n i : ℕ) → get_or {A = ℕ} (replicate n 0) i 0 ≡ 0
-zeros zero i = refl
-zeros (suc n) zero = refl
 zeros (suc n) (suc i) = zeros n i
+zeros n i = refl
 
 length_zeros : (n : ℕ) → length {A = ℕ} (replicate n 0) ≡ n
 length_zeros zero = refl
@@ -223,14 +217,5 @@ checked_ok files before l fresh h = elim (cases_Bool (repeats l.files)) [
   | inr once ↦ elim (cases_Bool (list_all (has_file files) l.files)) [
     | inl there ↦ rw (fresh, once, there) refl
     | inr absent ↦ let bad : Err Unlisted ≡ Ok l.files = (rw (once, absent) at h) in cc
-  ]
-]
-
-pub checked_err : (files : List FileEntry) (before : List SnapList) (l : SnapList) (why : Reason) → list_any (has_uuid l.uuid) before ≡ false → files_checked files l.files ≡ Err why → checked files before l ≡ Err why
-checked_err files before l why fresh h = elim (cases_Bool (repeats l.files)) [
-  | inl twice ↦ let same : ◌≡◌ {A = Result (List Id) Reason} (Err Duplicate) (Err why) = (rw twice at h) in let is : Duplicate ≡ why = cc in rw (fresh, twice) (ap Err is)
-  | inr once ↦ elim (cases_Bool (list_all (has_file files) l.files)) [
-    | inl there ↦ let bad : Ok l.files ≡ Err why = (rw (once, there) at h) in cc
-    | inr absent ↦ let same : ◌≡◌ {A = Result (List Id) Reason} (Err Unlisted) (Err why) = (rw (once, absent) at h) in let is : Unlisted ≡ why = cc in rw (fresh, once, absent) (ap Err is)
   ]
 ]

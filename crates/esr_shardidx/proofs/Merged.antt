@@ -106,24 +106,6 @@ rises_differ : (es : List FileEntry) → Rises es → repeats (map name_of es) �
 rises_differ [] rises = refl
 rises_differ (e ∷ es) rises = rw (any_name e.name es, none_over e.name es rises.0) (rises_differ es rises.1)
 
-filter_any : (p : FileEntry → Bool) (u : Id) (es : List FileEntry) → list_any (is_id u) (map name_of es) ≡ false → list_any (is_id u) (map name_of (filter p es)) ≡ false
-filter_any p u [] h = refl
-filter_any p u (e ∷ es) h =
-    let parts = or_parts (is_id u e.name) (list_any (is_id u) (map name_of es)) h in
-    elim (cases_Bool (p e)) [
-      | inl kept ↦ rw (kept, parts.0) (filter_any p u es parts.1)
-      | inr left ↦ rw left (filter_any p u es parts.1)
-    ]
-
-filter_differ : (p : FileEntry → Bool) (es : List FileEntry) → repeats (map name_of es) ≡ false → repeats (map name_of (filter p es)) ≡ false
-filter_differ p [] h = refl
-filter_differ p (e ∷ es) h =
-    let parts = or_parts (list_any (is_id e.name) (map name_of es)) (repeats (map name_of es)) h in
-    elim (cases_Bool (p e)) [
-      | inl kept ↦ rw (kept, filter_any p e.name es parts.0) (filter_differ p es parts.1)
-      | inr left ↦ rw left (filter_differ p es parts.1)
-    ]
-
 -- the new ones among the others, put after entries that they differ from
 differ_after : (xs : List Id) (files es : List FileEntry) → repeats xs ≡ false → repeats (map name_of es) ≡ false
     → ((u : Id) → list_any (is_id u) (map name_of es) ≡ true → has_file files u ≡ false → list_any (is_id u) xs ≡ false)

@@ -37,12 +37,6 @@ repeats-push (x ∷ xs) u apart new =
       none : (a b : Bool) → a ≡ false → b ≡ false → (a || (b || false)) ≡ false
       none a b h k = rw (h, k) refl
 
-pub repeats-front : (xs ys : List Id) → repeats xs ≡ true → repeats (xs ++ ys) ≡ true
-repeats-front [] ys h = cc
-repeats-front (x ∷ xs) ys h = or_cases (list_any (is_id x) xs) (repeats xs) h
-    (λ here. or_left (list_any (is_id x) (xs ++ ys)) _ (list_any-append (is_id x) xs ys ∙ or_left (list_any (is_id x) xs) _ here))
-    (λ later. or_right (list_any (is_id x) (xs ++ ys)) _ (repeats-front xs ys later))
-
 -- ---- a set that holds the numbers of a list
 
 -- it holds these
@@ -58,9 +52,8 @@ Holds-push key s n xs x has adds q =
     ∙ swapped (key x == q) (list_any (λ y. key y == q) xs) ∙ sym (list_any-append (λ y. key y == q) xs (x ∷ [])) where
       swapped : (a b : Bool) → cond a true b ≡ (b || (a || false))
       swapped true true = refl
-      swapped true false = refl
       swapped false true = refl
-      swapped false false = refl
+      swapped a b = refl
 
 pub Holds-next : {A : Type 0} (key : A → ℕ) (s n : BTreeSet ℕ) (xs : List A) (i : ℕ) (d : A) → i < length xs → Holds key s (take i xs) → Updates nat_cmp s n (key (get_or xs i d)) true → Holds key n (take (i + 1) xs)
 Holds-next {A} key s n xs i d within has adds =

@@ -1,5 +1,5 @@
 -- Where an id stands among entries that rise by id.
-use Rattle.std.proofs.Common.{◌≡◌, ℕ, zero, suc, ◌-◌, ◌<◌, ◌≤◌, ◌==◌, ◌||◌, nat_lt, Bool, true, false, List, [], ◌∷◌, length, get_or, slice_get, find, Some, add-one, refl, sym, ap, ◌∙◌, arith, inl, inr}
+use Rattle.std.proofs.Common.{◌≡◌, ℕ, zero, suc, ◌-◌, ◌<◌, ◌≤◌, ◌==◌, ◌||◌, nat_lt, Bool, true, false, List, [], ◌∷◌, length, get_or, slice_get, Some, add-one, refl, sym, ap, ◌∙◌, arith, inl, inr}
 use Rattle.std.specs.List.{list_any, AllByRecursion}
 use Rattle.std.specs.List.Sorted.{IsNonDecreasingBy, IsPartitionPoint}
 use Rattle.std.proofs.lemmas.Bool.{cases_Bool, ltb-true, ltb-false, eqb-true, eqb-false}
@@ -86,19 +86,6 @@ absent_at u (e ∷ es) rises other = elim (cases_Bool (nat_lt e.name.number u.nu
       let less : u.number < e.name.number = omega (arith, low, ne) in
       rw (apart, none_over u es (all_map (λ (x : FileEntry) (h : Above e.name x). let more : Above u x = omega (arith, h, less) in more) es rises.0)) refl
 ]
-
--- the entry at a place with its id is the one that is found under it
-pub found_at : (u : Id) (es : List FileEntry) (i : ℕ) → Rises es → is_at u (slice_get es i) ≡ true → find (has_name u) es ≡ slice_get es i
-found_at u [] i rises at = cc
-found_at u (e ∷ es) zero rises at = rw at refl
-found_at u (e ∷ es) (suc i) rises at = elim (cases_Bool (has_name u e)) [
-  | inl here ↦ absurd (over es i here rises.0 at)
-  | inr other ↦ rw other (found_at u es i rises.1 at)
-] where
-  over : (fs : List FileEntry) (j : ℕ) → has_name u e ≡ true → AllByRecursion (Above e.name) fs → is_at u (slice_get fs j) ≡ true → ⊥
-  over [] j here all at' = cc
-  over (f ∷ fs) zero here all at' = omega (arith, all.0, eqb-true e.name.number u.number here, eqb-true f.name.number u.number at')
-  over (f ∷ fs) (suc j) here all at' = over fs j here all.1 at'
 
 -- ---- a search by halves
 

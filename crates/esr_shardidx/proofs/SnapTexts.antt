@@ -6,11 +6,10 @@ use Rattle.serde_json.specs.Data.{Data}
 use Rattle.esr_names.specs.IdText.{read_id}
 use Rattle.esr_names.specs.declared.ids.Id.{Id}
 use Rattle.esr_names.specs.IdTextLaws.{read_id_fits}
-use Rattle.esr_json.specs.Access.{text_at, items_at}
+use Rattle.esr_json.specs.Access.{text_at}
 use Rattle.esr_json.specs.declared.key.Key.{Key}
-use Rattle.esr_json.specs.declared.key.Key.TheVariants as keys
 use Rattle.esr_shardidx.specs.Entries.{entry_of}
-use Rattle.esr_shardidx.specs.Snapshots.{SnapValue, has_name, id_at, snap_files_from, shard_snap_of, AreSnapFiles, IsShardSnap}
+use Rattle.esr_shardidx.specs.Snapshots.{has_name, id_at, snap_files_from, AreSnapFiles}
 use Rattle.esr_shardidx.specs.declared.entry.FileEntry.{FileEntry}
 use Rattle.esr_shardidx.proofs.Unrefused.{bind_ok, guard_ok, ok_same, some_from}
 use Rattle.esr_shardidx.proofs.EntryTexts.{entry_of-is}
@@ -35,12 +34,3 @@ unfolding id_at
 id_at-fits key d u h =
     let text = bind_ok (text_at key d) _ u h in
     read_id_fits text.0 u (some_from (read_id text.0) _ u text.2)
-
-pub shard_snap_of-is : (d : Data) (s : SnapValue) → shard_snap_of d ≡ Ok s → IsShardSnap s
-unfolding shard_snap_of
-shard_snap_of-is d s h =
-    let items = bind_ok (items_at keys.Files d) _ s h in
-    let files = bind_ok (snap_files_from [] items.0) _ s items.2 in
-    let uuid = bind_ok (id_at keys.Uuid d) _ s files.2 in
-    let whole : _ ≡ s = ok_same uuid.2 in
-    rw (← whole) (record { files = snap_files_from-are [] items.0 files.0 tt files.1; uuid = id_at-fits keys.Uuid d uuid.0 uuid.1 })

@@ -1,5 +1,5 @@
 -- Entries that were tested one after another.
-use Rattle.std.proofs.Common.{◌≡◌, ℕ, ◌+◌, ◌<◌, ◌^◌, nat_lt, nat_le, not, true, false, List, [], ◌∷◌, ◌++◌, length, take, drop, get_or, refl, sym, ap, ◌∙◌, subst}
+use Rattle.std.proofs.Common.{◌≡◌, ℕ, ◌+◌, ◌<◌, ◌^◌, nat_lt, nat_le, not, true, List, [], ◌∷◌, ◌++◌, length, take, drop, get_or, refl, sym, ap, ◌∙◌, subst}
 use Rattle.std.specs.List.{list_any}
 use Rattle.std.proofs.lemmas.Bool.{ltb-true, leb-true, not-true, and_parts}
 use Rattle.std.proofs.lemmas.List.{take_more, drop_more}
@@ -31,10 +31,3 @@ tested_more files i e within is test typed same whole =
       same ∙ ap (are_snap_files (take i files)) back ∙ step ∙ ap (λ (xs : List FileEntry). are_snap_files xs (drop (i + 1) files)) (sym front),
       subst (λ (xs : List FileEntry). AreSnapFiles [] xs) (sym front) (AreSnapFiles-push [] (take i files) e whole (follows-is (take i files) e test typed)),
     )
-
-pub tested_not : (files : List FileEntry) (i : ℕ) (e : FileEntry) → i < length files → e ≡ get_or files i e → follows (take i files) e ≡ false
-    → are_snap_files [] files ≡ are_snap_files (take i files) (drop i files) → are_snap_files [] files ≡ false
-tested_not files i e within is test same =
-    let back : drop i files ≡ e ∷ drop (i + 1) files = drop_more files i e within ∙ ap (λ (x : FileEntry). x ∷ drop (i + 1) files) (sym is) in
-    let step : are_snap_files (take i files) (e ∷ drop (i + 1) files) ≡ false = rw test refl in
-    same ∙ ap (are_snap_files (take i files)) back ∙ step

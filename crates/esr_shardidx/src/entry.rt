@@ -8,7 +8,7 @@ use esr_seq::Seq;
 use std::alloc::{AllocError, Global};
 
 /// A stored file of a shard.
-#[derive(Debug, Drop)]
+#[derive(Debug)]
 pub struct FileEntry {
     /// The id under which its bytes are stored.
     pub name: Id,
@@ -18,6 +18,18 @@ pub struct FileEntry {
     pub print: Print,
     /// The most bytes of one of its blobs, 1 to 2^30.
     pub part_size: u64,
+}
+
+impl Drop for FileEntry {
+    // Not derived: each crate above would prove a derived one again.
+    fn drop(self) {
+        let FileEntry {
+            name: _,
+            physical: _physical,
+            print: _,
+            part_size: _,
+        } = self;
+    }
 }
 
 /// Entries in order.

@@ -12,12 +12,22 @@ use std::alloc::{AllocError, Global};
 use std::marker::Model;
 
 /// The files of a shard that a snapshot has.
-#[derive(Debug, Drop)]
+#[derive(Debug)]
 pub struct SnapList {
     /// The ids of the files, in byte order of their physical names.
     pub files: Ids,
     /// The snapshot's id.
     pub uuid: Id,
+}
+
+impl Drop for SnapList {
+    // Not derived: each crate above would prove a derived one again.
+    fn drop(self) {
+        let SnapList {
+            files: _files,
+            uuid: _,
+        } = self;
+    }
 }
 
 impl SnapList {
@@ -38,10 +48,20 @@ pub type SnapLists = Seq<SnapList>;
 /// The stored files of a shard, rising by id, and the files that each snapshot has, in the order in
 /// which the snapshots were added. Each file is one that some snapshot has, each that a snapshot has
 /// is there, and no snapshot has two lists.
-#[derive(Debug, Drop)]
+#[derive(Debug)]
 pub struct ShardIndex {
     pub(crate) files: FileEntries,
     pub(crate) snapshots: SnapLists,
+}
+
+impl Drop for ShardIndex {
+    // Not derived: each crate above would prove a derived one again.
+    fn drop(self) {
+        let ShardIndex {
+            files: _files,
+            snapshots: _snapshots,
+        } = self;
+    }
 }
 
 impl Model for ShardIndex {

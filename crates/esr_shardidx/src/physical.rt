@@ -7,7 +7,7 @@ use std::alloc::{AllocError, Global};
 use std::marker::Model;
 
 /// Why there is no name.
-#[derive(Clone, Copy, Debug, PartialEq, Eq)]
+#[derive(Clone, Copy, Debug)]
 pub enum PhysicalRefusal {
     /// Memory ran out.
     Memory,
@@ -17,9 +17,16 @@ pub enum PhysicalRefusal {
 
 /// The name of a file where it was taken from: 1 to 255 bytes of 33 to 126, none a slash, and neither
 /// `.` nor `..`.
-#[derive(Debug, Drop)]
+#[derive(Debug)]
 pub struct PhysicalName {
     text: String,
+}
+
+impl Drop for PhysicalName {
+    // Not derived: each crate above would prove a derived one again.
+    fn drop(self) {
+        let PhysicalName { text: _text } = self;
+    }
 }
 
 impl Model for PhysicalName {

@@ -39,23 +39,15 @@ of_client s own log new who step ok result view is d = calls_client s own log ne
 
 pub calls_hand : {X : Type 0} (hand : Hand) (s : Start) (own log new : List Moment) (who : ℕ) (step : Step) (ok : X → Reply) (result : Result X StepRefusal) → own ≡ log → IsMine hand (calls_at 0 log) who → Did s own new who step ok result
     → calls_at 0 new ≡ called_by hand new step ok result (calls_at 0 log)
-calls_hand hands.Unit s own log new who step ok result view mine d = calls_ticket s own log new who step ok result view mine.some d
-calls_hand hands.Delete s own log new who step ok result view mine d = calls_ticket s own log new who step ok result view mine.some d
-calls_hand hands.Restore s own log new who step ok result view mine d = calls_ticket s own log new who step ok result view mine.some d
 calls_hand hands.Check s own log new who step ok result view mine d = of_client s own log new who step ok result view mine d
 calls_hand hands.Verify s own log new who step ok result view mine d = of_client s own log new who step ok result view mine d
+calls_hand hand s own log new who step ok result view mine d = calls_ticket s own log new who step ok result view mine.some d
 
 -- where no turn is left, or no memory
 pub calls_same : {X : Type 0} (hand : Hand) (log : List Moment) (step : Step) (ok : X → Reply) (calls : List Call) → calls ≡ called_by {X = X} hand log step ok (Err steps.TurnsSpent) calls
 calls_same hands.Unit log step ok calls = refl
-calls_same hands.Delete log step ok calls = refl
-calls_same hands.Restore log step ok calls = refl
-calls_same hands.Check log step ok calls = refl
-calls_same hands.Verify log step ok calls = refl
+calls_same hand log step ok calls = refl
 
 pub calls_wanting : {X : Type 0} (hand : Hand) (log : List Moment) (step : Step) (ok : X → Reply) (calls : List Call) → calls ≡ called_by {X = X} hand log step ok (Err steps.Memory) calls
 calls_wanting hands.Unit log step ok calls = refl
-calls_wanting hands.Delete log step ok calls = refl
-calls_wanting hands.Restore log step ok calls = refl
-calls_wanting hands.Check log step ok calls = refl
-calls_wanting hands.Verify log step ok calls = refl
+calls_wanting hand log step ok calls = refl

@@ -61,13 +61,11 @@ longer hand log m place who why r =
 -- a longer list of objects shows as much
 more_listed : {S F H T : Type 0} (faults more : List (Fault S F H T)) (place : ℕ) (b : By S F H T) → IsListed faults place b → IsListed (faults ++ more) place b
 more_listed faults more place (by.Object object) h = Has-left faults more (record { entry = Some place; object = object }) h
-more_listed faults more place by.Entry h = tt
-more_listed faults more place by.Nothing h = tt
+more_listed faults more place b h = tt
 
 own_listed : {S F H T : Type 0} (faults : List (Fault S F H T)) (place : ℕ) (b : By S F H T) → IsListed (faults ++ listed_at place b) place b
 own_listed faults place (by.Object object) = Has-right faults (record { entry = Some place; object = object } ∷ []) (record { entry = Some place; object = object }) (inl refl)
-own_listed faults place by.Entry = tt
-own_listed faults place by.Nothing = tt
+own_listed faults place b = tt
 
 -- so is what shows it
 shows_longer : {S F H T : Type 0} (e : Evidence S F H T) (s : Start) (log : List Moment) (m : Moment) (fault : Fault S F H T) → ShowsReport e s log fault → ShowsReport e s (log ++ m ∷ []) fault
@@ -89,10 +87,7 @@ IsNoReportOf step reply = (why : Why) → why_told step ≡ Some why → reply �
 
 told_by : (hand : Hand) (why : Why) → why_told (fail_step hand why) ≡ Some why
 told_by hands.Unit why = refl
-told_by hands.Delete why = refl
-told_by hands.Restore why = refl
-told_by hands.Check why = refl
-told_by hands.Verify why = refl
+told_by hand why = refl
 
 -- an earlier report, by the part of the history that it is in
 earlier : (hand : Hand) (log : List Moment) (m : Moment) (place who : ℕ) (why : Why) (r : IsReport hand (log ++ m ∷ []) place who why) → (rest : List Moment) → log ≡ r.front ++ r.moment ∷ rest → IsReport hand log place who why
@@ -190,10 +185,7 @@ shown_of e s a b log who why x one shown = absurd one
 
 own_of_itself : (hand : Hand) → IsOneStep hand hand
 own_of_itself hands.Unit = tt
-own_of_itself hands.Delete = tt
-own_of_itself hands.Restore = tt
-own_of_itself hands.Check = tt
-own_of_itself hands.Verify = tt
+own_of_itself hand = tt
 
 module _ {S F H T : Type 0} (e : Evidence S F H T) (s : Start) (hand : Hand) (log : List Moment) (m : Moment) (faults : List (Fault S F H T))
     (why : Why) (b : By S F H T) (teller : IsTeller hand m.entry.who) (step : m.entry.step ≡ fail_step hand why) (reply : m.entry.reply ≡ HasEnded)
@@ -230,8 +222,7 @@ module _ {S F H T : Type 0} (e : Evidence S F H T) (s : Start) (hand : Hand) (lo
         shown = subst (λ (y : By S F H T). IsShownOf hand e s log m.entry.who why y) (sym is) (shown_of e s hand hand log m.entry.who why b (own_of_itself hand) shown);
       })
   now_listed (by.Object object) is fault (inr none) = absurd none
-  now_listed by.Entry is fault none = absurd none
-  now_listed by.Nothing is fault none = absurd none
+  now_listed x is fault none = absurd none
 
   old_below : (one : Fault S F H T) (p : ℕ) → Has faults one → one.entry ≡ Some p → p < length log
   old_below one p has at =
@@ -243,8 +234,7 @@ module _ {S F H T : Type 0} (e : Evidence S F H T) (s : Start) (hand : Hand) (lo
 
   now_rising : (x : By S F H T) → AreRising (faults ++ listed_at (length log) x)
   now_rising (by.Object object) = rising_more faults (record { entry = Some (length log); object = object }) (length log) refl old_below h.rising
-  now_rising by.Entry = subst AreRising (sym (append-nil faults)) h.rising
-  now_rising by.Nothing = subst AreRising (sym (append-nil faults)) h.rising
+  now_rising x = subst AreRising (sym (append-nil faults)) h.rising
 
   pub reports : AreShown e s (log ++ m ∷ []) (faults ++ listed_at (length log) b)
   unfolding earlier

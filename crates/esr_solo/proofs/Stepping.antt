@@ -95,10 +95,8 @@ grown s own new who step ok (Err steps.TurnsSpent) never = absurd never
 grown s own new who step ok (Err (steps.Refused refusal)) d = one_more own new (record { entry = record { who = who; step = step; reply = Refused (refusal_of refusal) }; image = d.image }) d.is
 
 pub at_most_one : {X : Type 0} (result : Result X StepRefusal) → turns_of result ≤ 1
-at_most_one (Ok x) = omega arith
 at_most_one (Err steps.Memory) = omega arith
-at_most_one (Err steps.TurnsSpent) = omega arith
-at_most_one (Err (steps.Refused refusal)) = omega arith
+at_most_one result = omega arith
 
 pub counted : (n k left rest took all : ℕ) → left ≢ 0 → took ≤ 1 → rest ≡ left - took → n + left ≡ all → k ≡ n + took → k + rest ≡ all
 counted n k left rest took all some few is e d = omega (arith, some, few, is, e, d)
@@ -106,10 +104,9 @@ counted n k left rest took all some few is e d = omega (arith, some, few, is, e,
 -- ---- the history stays legal
 
 pub legal_did : {X : Type 0} (s : Start) (own new : List Moment) (who : ℕ) (step : Step) (ok : X → Reply) (result : Result X StepRefusal) → Legal s own → Did s own new who step ok result → Legal s new
-legal_did s own new who step ok (Ok x) l d = d.legal
 legal_did s own new who step ok (Err steps.Memory) l d = subst (Legal s) (sym d) l
 legal_did s own new who step ok (Err steps.TurnsSpent) l never = absurd never
-legal_did s own new who step ok (Err (steps.Refused refusal)) l d = d.legal
+legal_did s own new who step ok result l d = d.legal
 
 -- why a step is refused, as the repository tells it
 abbrev pub HasGrounds : Start → List Moment → Type 0
@@ -147,38 +144,23 @@ is_few s own new who step ok (Err e) left turns some d = tt
 
 fail_restores : (hand : Hand) (why : Why) → IsNoRestoration (fail_step hand why) HasEnded
 fail_restores hands.Unit why before who = refl
-fail_restores hands.Delete why before who = refl
-fail_restores hands.Restore why before who = refl
-fail_restores hands.Check why before who = refl
-fail_restores hands.Verify why before who = refl
+fail_restores hand why before who = refl
 
 fail_commits : (hand : Hand) (s : Start) (log : List Moment) (who : ℕ) (why : Why) → IsNew s log who (fail_step hand why)
 fail_commits hands.Unit s log who why name is no_metadata noted = cc
-fail_commits hands.Delete s log who why name is no_metadata noted = cc
-fail_commits hands.Restore s log who why name is no_metadata noted = cc
-fail_commits hands.Check s log who why name is no_metadata noted = cc
-fail_commits hands.Verify s log who why name is no_metadata noted = cc
+fail_commits hand s log who why name is no_metadata noted = cc
 
 fail_tests : (hand : Hand) (s : Start) (own new : List Moment) (why : Why) (result : Result Unit StepRefusal) → TestsBy s own new (fail_step hand why) result
 fail_tests hands.Unit s own new why result = tt
-fail_tests hands.Delete s own new why result = tt
-fail_tests hands.Restore s own new why result = tt
-fail_tests hands.Check s own new why result = tt
-fail_tests hands.Verify s own new why result = tt
+fail_tests hand s own new why result = tt
 
 fail_removes : (hand : Hand) (own : List Moment) (who : ℕ) (why : Why) → RemovesBy own who (fail_step hand why)
 fail_removes hands.Unit own who why = tt
-fail_removes hands.Delete own who why = tt
-fail_removes hands.Restore own who why = tt
-fail_removes hands.Check own who why = tt
-fail_removes hands.Verify own who why = tt
+fail_removes hand own who why = tt
 
 pub fetch_reports : (hand : Hand) (name : BlobName) (reply : Reply) → IsNoReportOf (fetch_step hand name) reply
 fetch_reports hands.Unit name reply why told ended = cc
-fetch_reports hands.Delete name reply why told ended = cc
-fetch_reports hands.Restore name reply why told ended = cc
-fetch_reports hands.Check name reply why told ended = cc
-fetch_reports hands.Verify name reply why told ended = cc
+fetch_reports hand name reply why told ended = cc
 
 pub fetch_restores : (hand : Hand) (name : BlobName) {F : Type 0} (o : Option F) → IsNoRestoration (fetch_step hand name) (fetch_reply o)
 fetch_restores hands.Unit name None before who = refl
@@ -194,32 +176,22 @@ fetch_restores hands.Verify name (Some f) before who = refl
 
 pub fetch_commits : (hand : Hand) (s : Start) (log : List Moment) (who : ℕ) (name : BlobName) → IsNew s log who (fetch_step hand name)
 fetch_commits hands.Unit s log who name other is no_metadata noted = cc
-fetch_commits hands.Delete s log who name other is no_metadata noted = cc
-fetch_commits hands.Restore s log who name other is no_metadata noted = cc
-fetch_commits hands.Check s log who name other is no_metadata noted = cc
-fetch_commits hands.Verify s log who name other is no_metadata noted = cc
+fetch_commits hand s log who name other is no_metadata noted = cc
 
 pub fetch_tests : (hand : Hand) {X : Type 0} (s : Start) (own new : List Moment) (name : BlobName) (result : Result X StepRefusal) → TestsBy s own new (fetch_step hand name) result
 fetch_tests hands.Unit s own new name result = tt
-fetch_tests hands.Delete s own new name result = tt
-fetch_tests hands.Restore s own new name result = tt
-fetch_tests hands.Check s own new name result = tt
-fetch_tests hands.Verify s own new name result = tt
+fetch_tests hand s own new name result = tt
 
 pub fetch_removes : (hand : Hand) (own : List Moment) (who : ℕ) (name : BlobName) → RemovesBy own who (fetch_step hand name)
 fetch_removes hands.Unit own who name = tt
-fetch_removes hands.Delete own who name = tt
-fetch_removes hands.Restore own who name = tt
-fetch_removes hands.Check own who name = tt
-fetch_removes hands.Verify own who name = tt
+fetch_removes hand own who name = tt
 
 -- a restore's ticket is numbered from 1 on
 pub teller_is : (hand : Hand) (calls : List Call) (who : ℕ) → IsMine hand calls who → IsTeller hand who
-teller_is hands.Unit calls who mine = tt
-teller_is hands.Delete calls who mine = tt
 teller_is hands.Restore calls who mine = mine.some
 teller_is hands.Check calls who mine = mine
 teller_is hands.Verify calls who mine = mine
+teller_is hand calls who mine = tt
 
 -- ---- the invariant
 

@@ -1,5 +1,5 @@
 -- The ticket of a unit that was taken.
-use Rattle.std.proofs.Common.{◌≡◌, ℕ, zero, suc, ◌-◌, ◌≤◌, List, [], ◌∷◌, ◌++◌, length, Option, Some, None, IfSome, Result, Ok, Err, IfOk, refl, sym, ap, ◌∙◌, subst, inl, arith}
+use Rattle.std.proofs.Common.{◌≡◌, ℕ, zero, suc, ◌-◌, ◌≤◌, List, [], ◌∷◌, ◌++◌, length, Option, Some, None, IfSome, Result, Ok, IfOk, refl, sym, ap, ◌∙◌, subst, inl, arith}
 use Rattle.esr_model.specs.Lists.{Has-right}
 use Rattle.esr_model.specs.Values.{Has}
 use Rattle.esr_core.specs.Entry.{Entry, TakeStep, Given, Gave, Moment}
@@ -57,11 +57,9 @@ pub taken_new : (s : Start) (own new : List Moment) (result : Result (Option Tak
     → IfOk result (λ o. IfSome o (λ u. made_of s new u.ready.ticket ≡ []))
 taken_new s own new (Ok (Some u)) law numbered none d =
     others_leave (formats_of s) s.world new u.ready.ticket (none_made s own new law numbered u d) ∙ ap (λ (made : List Entry). entries_by made u.ready.ticket) none
-taken_new s own new (Ok None) law numbered none d = tt
-taken_new s own new (Err e) law numbered none d = tt
+taken_new s own new result law numbered none d = tt
 
 pub taken_mine : (s : Start) (own new : List Moment) (result : Result (Option Taken) StepRefusal) → IsNewNumber → Numbered 1 s.world → Did s own new 0 TakeStep take_reply result
     → IfOk result (λ o. IfSome o (λ u. HasTaken (calls_at 0 new) u.ready.ticket))
 taken_mine s own new (Ok (Some u)) law numbered d = is_taken s own new law numbered u d
-taken_mine s own new (Ok None) law numbered d = tt
-taken_mine s own new (Err e) law numbered d = tt
+taken_mine s own new result law numbered d = tt

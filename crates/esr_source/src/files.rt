@@ -7,7 +7,7 @@ use esr_seq::{Bytes, Seq, Text};
 use std::alloc::{AllocError, Global};
 
 /// A file that is listed, by its name and its length in bytes.
-#[derive(Debug, PartialEq, Eq, Drop)]
+#[derive(Debug, Drop)]
 pub struct ListedFile {
     pub name: Text,
     pub length: u64,
@@ -17,7 +17,7 @@ pub struct ListedFile {
 pub type Files = Seq<ListedFile>;
 
 /// A file in memory.
-#[derive(Debug, PartialEq, Eq, Drop)]
+#[derive(Debug, Drop)]
 pub struct MemFile {
     pub name: Text,
     pub bytes: Bytes,

@@ -1,7 +1,7 @@
 //! What is told of a run's progress while it runs.
 
 /// Where a worker is with its ticket.
-#[derive(Clone, Copy, Debug, PartialEq, Eq)]
+#[derive(Clone, Copy, Debug)]
 pub enum Point {
     /// It has taken the ticket.
     Taken { ticket: u64 },

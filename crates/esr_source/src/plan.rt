@@ -20,7 +20,7 @@ pub enum Call {
 }
 
 /// The call of that kind and number fails. An object counts the calls of each kind from 1.
-#[derive(Clone, Copy, Debug, PartialEq, Eq)]
+#[derive(Clone, Copy, Debug)]
 pub struct Failing {
     pub call: Call,
     pub nth: u64,

@@ -7,7 +7,7 @@ use Rattle.esr_model.specs.Values.{RootData, ReadsBack, Formats}
 use Rattle.esr_model.specs.Kept.{first_id}
 use Rattle.esr_model.specs.Image.{Image}
 use Rattle.esr_model.specs.Delete.{PrunedShard, kept_count, deleted_root}
-use Rattle.esr_core.specs.World.{World, Ticket, Deletion, Work, Shard, Finalize, Deleting, Drop, Swap, swap, record_ops, ledger_of}
+use Rattle.esr_core.specs.World.{World, Ticket, Deletion, Work, Deleting, Swap, swap, record_ops, ledger_of}
 use Rattle.esr_core.specs.Pruning.{planned_work, planned}
 use Rattle.esr_core.specs.Steps.{with_ticket}
 use Rattle.esr_core.specs.Tracked.{Tracked}
@@ -104,9 +104,7 @@ same_seat f shards first t = ap (λ (kind : UnitKind). record { kind = kind; cle
   where
     same_kind : (work : Work) → kind_of (planned_work f t shards first work) ≡ kind_of work
     same_kind (Deleting uuids plan) = refl
-    same_kind (Shard index number) = refl
-    same_kind (Finalize info results made) = refl
-    same_kind Drop = refl
+    same_kind work = refl
 
 planned_plan : (f : Formats) (w : World) (k : ℕ) (shards : List PrunedShard) (next : ℕ) (p : Plan) → IsPlanOf w p → IsPlanOf (record (change w k (planned f shards w.next_id)) { next_id = next }) p
 planned_plan f w k shards next p h = go (fin.get w.tickets k) refl

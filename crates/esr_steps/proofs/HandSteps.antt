@@ -68,38 +68,24 @@ err_own law s old new who step x still leaves did = own_same s old new who (kept
 
 fetch_leaves : (hand : Hand) (who : ℕ) (name : BlobName) → LeavesCaller who (fetch_step hand name)
 fetch_leaves hands.Unit who name = tt
-fetch_leaves hands.Delete who name = tt
-fetch_leaves hands.Restore who name = tt
-fetch_leaves hands.Check who name = tt
-fetch_leaves hands.Verify who name = tt
+fetch_leaves hand who name = tt
 
 fail_leaves : (hand : Hand) (who : ℕ) (why : Why) → LeavesCaller who (fail_step hand why)
 fail_leaves hands.Unit who why = tt
-fail_leaves hands.Delete who why = tt
-fail_leaves hands.Restore who why = tt
-fail_leaves hands.Check who why = tt
-fail_leaves hands.Verify who why = tt
+fail_leaves hand who why = tt
 
 fetch_still : (hand : Hand) (s : Start) (log : List Moment) (who : ℕ) (name : BlobName) (image : Option Image) → faulted (formats_of s) (world_of s log) who (fetch_step hand name) image ≡ world_of s log
 fetch_still hands.Unit s log who name image = refl
-fetch_still hands.Delete s log who name image = refl
-fetch_still hands.Restore s log who name image = refl
-fetch_still hands.Check s log who name image = refl
-fetch_still hands.Verify s log who name image = refl
+fetch_still hand s log who name image = refl
 
 fail_still : (hand : Hand) (s : Start) (log : List Moment) (who : ℕ) (why : Why) (image : Option Image) → faulted (formats_of s) (world_of s log) who (fail_step hand why) image ≡ world_of s log
 fail_still hands.Unit s log who why image = refl
-fail_still hands.Delete s log who why image = refl
-fail_still hands.Restore s log who why image = refl
-fail_still hands.Check s log who why image = refl
-fail_still hands.Verify s log who why image = refl
+fail_still hand s log who why image = refl
 
 -- ---- a fetch
 
 -- a check fetches no test blob, and a verification none before its draw
 pub fetch_reads : (hand : Hand) (s : Start) (log : List Moment) (who : ℕ) (name : BlobName) → ReadTracked (world_of s log) → MayFetchSo hand s log who name → ReadsOwn (caller_of s log) who (fetch_step hand name)
-fetch_reads hands.Unit s log who name tracked may = tt
-fetch_reads hands.Delete s log who name tracked may = tt
 fetch_reads hands.Restore s log zero name tracked may = absurd (no_zero (world_of s log) (reader_of s log 0) tracked (reading_is s log 0 may.out))
 fetch_reads hands.Restore s log (suc k) name tracked may = λ is. absurd (never is)
   where
@@ -107,6 +93,7 @@ fetch_reads hands.Restore s log (suc k) name tracked may = λ is. absurd (never 
     never e = cc
 fetch_reads hands.Check s log who name tracked may = λ is id test. absurd (may.1.untested id test)
 fetch_reads hands.Verify s log who name tracked may = λ is id test. may.1.drawn
+fetch_reads hand s log who name tracked may = tt
 
 pub may_fetch_by : (hand : Hand) (s : Start) (old log : List Moment) (who : ℕ) (name : BlobName) → log ≡ old → Tracked (world_of s log) → AreOfOps (world_of s log) → AreTests (world_of s log).caller → MayFetchSo hand s old who name
     → MayFetch s log who (fetch_step hand name) name
@@ -222,31 +209,22 @@ fetch_own_kept law hand left s old mid new who name (Err x) e did =
 
 pub fail_reads : (hand : Hand) (c : Caller) (who : ℕ) (why : Why) → ReadsOwn c who (fail_step hand why)
 fail_reads hands.Unit c who why = tt
-fail_reads hands.Delete c who why = tt
-fail_reads hands.Restore c who why = tt
-fail_reads hands.Check c who why = tt
-fail_reads hands.Verify c who why = tt
+fail_reads hand c who why = tt
 
 pub fail_free : (hand : Hand) (s : Start) (log : List Moment) (who : ℕ) (why : Why) → IsFresh s log who (fail_step hand why)
 fail_free hands.Unit s log who why = free_fresh s log who (FailedStep why) tt
 fail_free hands.Delete s log who why = free_fresh s log who (PruneStep (DeleteFails why)) tt
-fail_free hands.Restore s log who why = free_fresh s log who (ReadStep (ReadFails why)) tt
-fail_free hands.Check s log who why = free_fresh s log who (ReadStep (ReadFails why)) tt
-fail_free hands.Verify s log who why = free_fresh s log who (ReadStep (ReadFails why)) tt
+fail_free hand s log who why = free_fresh s log who (ReadStep (ReadFails why)) tt
 
 pub may_fail_by : (hand : Hand) (s : Start) (old log : List Moment) (who : ℕ) (why : Why) (p : Option Plan) (next : ℕ) → log ≡ old → Tracked (world_of s log) → ReadTracked (world_of s log) → AreOfOps (world_of s log)
     → MayFail hand s old who
     → IsPlanAfter hand (world_of s log) who p → next ≡ (world_of s log).next_id → MayNote s log who (fail_step hand why) HasEnded p next
 may_fail_by hands.Unit s old log who why (Some p) next e tracked reads of_ops may goes is = may_fail s old log who why p next e may tracked goes is
-may_fail_by hands.Unit s old log who why None next e tracked reads of_ops may goes is = absurd goes
 may_fail_by hands.Delete s old log who why (Some p) next e tracked reads of_ops may goes is = may_fail_delete s old log who why p next e tracked of_ops may goes is
-may_fail_by hands.Delete s old log who why None next e tracked reads of_ops may goes is = absurd goes
 may_fail_by hands.Restore s old log who why (Some p) next e tracked reads of_ops may goes is = may_note_unrestored s old log who why p next e reads may goes is
-may_fail_by hands.Restore s old log who why None next e tracked reads of_ops may goes is = absurd goes
-may_fail_by hands.Check s old log who why (Some p) next e tracked reads of_ops may goes is = absurd goes
 may_fail_by hands.Check s old log who why None next e tracked reads of_ops may goes is = subst (λ (k : ℕ). MayNote s log k (ReadStep (ReadFails why)) HasEnded None next) (sym may.0.client) (may_note_unchecked s old log why next e may.1 is)
-may_fail_by hands.Verify s old log who why (Some p) next e tracked reads of_ops may goes is = absurd goes
 may_fail_by hands.Verify s old log who why None next e tracked reads of_ops may goes is = subst (λ (k : ℕ). MayNote s log k (ReadStep (ReadFails why)) HasEnded None next) (sym may.0.client) (may_note_unverified s old log why next e may.1 is)
+may_fail_by hand s old log who why p next e tracked reads of_ops may goes is = absurd goes
 
 either_readers : (w a b : World) (first : Bool) → a.readers ≡ w.readers → b.readers ≡ w.readers → (if first then a else b).readers ≡ w.readers
 either_readers w a b true p q = p
@@ -299,16 +277,11 @@ failed_own law hands.Check s old new (suc k) why tracked reads may a = absurd (n
   where
     never : suc k ≡ 0 → ⊥
     never e = cc
-failed_own law hands.Check s old new zero why tracked reads may a = λ j. record {
-  ticket = added_ticket s old new 0 (ReadStep (ReadFails why)) HasEnded a 0 j;
-  reader = added_reader s old new 0 (ReadStep (ReadFails why)) HasEnded a 0 j;
-  caller = unchecked_caller law s old new why a j;
-}
 failed_own law hands.Verify s old new (suc k) why tracked reads may a = absurd (never may.0.client)
   where
     never : suc k ≡ 0 → ⊥
     never e = cc
-failed_own law hands.Verify s old new zero why tracked reads may a = λ j. record {
+failed_own law hand s old new who why tracked reads may a = λ j. record {
   ticket = added_ticket s old new 0 (ReadStep (ReadFails why)) HasEnded a 0 j;
   reader = added_reader s old new 0 (ReadStep (ReadFails why)) HasEnded a 0 j;
   caller = unchecked_caller law s old new why a j;

@@ -10,7 +10,7 @@ use Rattle.std.specs.FinMap as fin
 use Rattle.esr_model.specs.Image.{Image}
 use Rattle.esr_model.specs.Shelf.{Command}
 use Rattle.esr_model.specs.Values.{ClusterRecord, RootData, SnapInfo, ShardResult, Formats}
-use Rattle.esr_core.specs.World.{World, Op, AllDone, Ticket, Work, Shard, Finalize, Deleting, Drop, Swap, swap, swap_of, record_ops, ledger_of, record_of}
+use Rattle.esr_core.specs.World.{World, Op, AllDone, Ticket, Work, Finalize, Deleting, Drop, Swap, swap, swap_of, record_ops, ledger_of, record_of}
 use Rattle.esr_core.specs.Steps.{MaySettle}
 use Rattle.esr_core.specs.Tracked.{Tracked}
 use Rattle.esr_core.specs.Entry.{RaiseStep, SettleStep, DroppedStep, RaisedTo, WasSettled, HasEnded, Refused, DepotFault, StaleTerm, GenerationsSpent, Refusal, Moment}
@@ -55,8 +55,7 @@ final_work f t change unpruned is = go t.work refl is
     go : (work : Work) → t.work ≡ work → swap_of f work t.root ≡ Some change → IsFinal t
     go (Finalize info results made) same e = (info, results, made, same)
     go (Deleting uuids plan) same e = absurd (unpruned uuids plan same)
-    go (Shard index number) same e = absurd (none_some change e)
-    go Drop same e = absurd (none_some change e)
+    go work same e = absurd (none_some change e)
 
 -- its op is there, with its shards done
 pub info_there : (s : Start) (log : List Moment) (k : ℕ) (root : RootData) (seat : Seat) (plan : Plan) → Tracked (world_of s log) → IsUnpruned (ticket_of s log k) → CanSettle s (ticket_of s log k) root
@@ -97,6 +96,30 @@ may_raise s log k n cluster plan p next served can present n_is room cluster_is 
   plan_is = λ old h. goes (world_of s log) plan_is (sym n_is);
   next_is = next_is ∙ sym (next_given (world_of s log) k (raise_by (world_of s log).pending));
 }
+
+-- the number after one that is -1 at least
+count_next : (z safe : ℤ) → negsuc 0 ≤ℤ safe → safe ≤ℤ z → count_of (z +ℤ pos 1) ≡ suc (count_of z)
+count_next (pos n) safe least order = ap suc (omega arith)
+count_next (negsuc n) safe least order =
+    let none : n ≡ 0 = omega (arith, ints) in
+    subst (λ (m : ℕ). count_of (negsuc m +ℤ pos 1) ≡ suc (count_of (negsuc m))) (sym none) refl
+
+abbrev with_pending : ℕ → ClusterRecord → ClusterRecord
+with_pending n c = record c { ledger = record c.ledger { pending = n } }
+
+-- the record has one generation more
+pub raised_record : (w : World) (k : ℕ) (old new : Record) (n : ℤ) → cluster_of old ≡ record_of w → AreNumbers old.pending old.safe old.term → n ≡ old.pending +ℤ pos 1 → new ≡ record old { pending = n }
+    → cluster_of new ≡ record_of (raised w k)
+raised_record w k old new n is numbers n_is new_is =
+    ap cluster_of new_is
+    ∙ ap (λ (z : ℤ). with_pending (count_of z) (cluster_of old)) n_is
+    ∙ ap (λ (m : ℕ). with_pending m (cluster_of old)) (count_next old.pending old.safe numbers.least numbers.order)
+    ∙ ap (λ (c : ClusterRecord). with_pending (suc c.ledger.pending) c) is
+    ∙ go (fin.get w.tickets k)
+  where
+    go : (o : Option Ticket) → with_pending (suc w.pending) (record_of w) ≡ record_of (record (with_given w k (raise_by w.pending) o) { pending = suc w.pending })
+    go None = refl
+    go (Some t) = refl
 
 -- ---- why it is refused
 

@@ -5,7 +5,7 @@ use Rattle.std.specs.FinMap as fin
 use Rattle.esr_model.specs.Image.{Image}
 use Rattle.esr_model.specs.Names.{BlobName, Root, Latest, IndexMeta, ShardSnap, ShardIndex}
 use Rattle.esr_model.specs.Values.{Bytes, Has, Formats}
-use Rattle.esr_core.specs.World.{World, Ticket, Work, Shard, Finalize, Deleting, Drop, Swap, swap, swap_of, metadata}
+use Rattle.esr_core.specs.World.{World, Ticket, Work, Finalize, Deleting, Swap, swap, swap_of, metadata}
 use Rattle.esr_core.specs.Entry.{Step, BeginStep, CommitStep, LatestStep, FetchStep, WasBegun, WasDone, WasThere, WasReplaced, WasFetched, WasAbsent, Refused, DepotFault, Moment}
 use Rattle.esr_core.specs.Steps.{noting, IsOut, SwapCommits, ShardCommits, MayCommit, IsToFetch}
 use Rattle.esr_core.specs.Texts.{IsMetaOf}
@@ -159,9 +159,8 @@ pub fetched_ticket : {F : Type 0} (left : F → Option Bytes) (s : Start) (old m
 fetched_ticket left s old mid new k name r e can did = fetched left s old new k name r can.out (fetch_from left s old mid new k (FetchStep name) name r e did)
 
 fetch_step : {F : Type 0} (left : F → Option Bytes) (s : Start) (old new : List Moment) (k : ℕ) (step : Step) (name : BlobName) (r : Result (Option F) StepRefusal) → FetchDid left s old new k step name r → Did s old new k step fetch_reply r
-fetch_step left s old new k step name (Ok None) did = did
 fetch_step left s old new k step name (Ok (Some f)) did = did.0
-fetch_step left s old new k step name (Err e) did = did
+fetch_step left s old new k step name r did = did
 
 pub fetch_did : {F : Type 0} (left : F → Option Bytes) (s : Start) (old mid new : List Moment) (k : ℕ) (step : Step) (name : BlobName) (r : Result (Option F) StepRefusal) → mid ≡ old → FetchDid left s mid new k step name r
     → Did s old new k step fetch_reply r
@@ -210,8 +209,7 @@ refinding f w k t name bytes pruning out unsettled may meta = go may
     own change (Deleting uuids plan) is e h =
         let it = (pruning k t uuids change out.there (is ∙ ap (Deleting uuids) e)).own name bytes h in
         absurd (no_index it.0 it.1 it.2 (subst (IsMetaOf meta.0) it.3 meta.1))
-    own change (Shard index number) is e h = absurd (none_some change e)
-    own change Drop is e h = absurd (none_some change e)
+    own change work is e h = absurd (none_some change e)
 
     by_swap : (change : Swap) → swap f t ≡ Some change → SwapCommits f change t name bytes → Refinds f w k name
     by_swap change is (inl h) = own change t.work refl is h

@@ -5,7 +5,6 @@ use esr_formats::{
     read_shard_snap, write_cluster, write_global, write_index_meta, write_info, write_name,
     write_root, write_shard_index, write_shard_snap,
 };
-use esr_json::ReadRefusal;
 use esr_names::{BlobName, ShardId, is_name};
 use esr_scenes::{Subject, cut, say, say_bytes, say_number};
 use esr_seq::Bytes;
@@ -24,53 +23,75 @@ use std::alloc::{AllocError, Global};
 #[derive(Drop)]
 pub(crate) struct Formats;
 
-fn root_again(alloc: Global, text: &[u8]) -> Result<Bytes, ReadRefusal> {
-    Ok(write_root(alloc, &read_root(alloc, text)?)?)
-}
-
-fn cluster_again(alloc: Global, text: &[u8]) -> Result<Bytes, ReadRefusal> {
-    Ok(write_cluster(alloc, &read_cluster(alloc, text)?)?)
-}
-
-fn info_again(alloc: Global, text: &[u8]) -> Result<Bytes, ReadRefusal> {
-    Ok(write_info(alloc, &read_info(alloc, text)?)?)
-}
-
-fn global_again(alloc: Global, text: &[u8]) -> Result<Bytes, ReadRefusal> {
-    Ok(write_global(alloc, &read_global(alloc, text)?)?)
-}
-
-fn index_meta_again(alloc: Global, text: &[u8]) -> Result<Bytes, ReadRefusal> {
-    Ok(write_index_meta(alloc, &read_index_meta(alloc, text)?)?)
-}
-
-fn shard_snap_again(alloc: Global, text: &[u8]) -> Result<Bytes, ReadRefusal> {
-    Ok(write_shard_snap(alloc, &read_shard_snap(alloc, text)?)?)
-}
-
-fn shard_index_again(alloc: Global, text: &[u8]) -> Result<Bytes, ReadRefusal> {
-    Ok(write_shard_index(alloc, &read_shard_index(alloc, text)?)?)
-}
-
-/// The text of such a value, read and written again.
-fn again(alloc: Global, kind: &str, text: &[u8]) -> Result<Bytes, ReadRefusal> {
-    match kind {
-        "root" => root_again(alloc, text),
-        "record" => cluster_again(alloc, text),
-        "info" => info_again(alloc, text),
-        "global" => global_again(alloc, text),
-        "index-meta" => index_meta_again(alloc, text),
-        "shard-snap" => shard_snap_again(alloc, text),
-        "shard-index-blob" => shard_index_again(alloc, text),
-        _ => Ok(Bytes::from_slice(alloc, b"no such kind")?),
+/// Says what was written of what was read of a text.
+fn say_written(text: &[u8], written: Result<Bytes, AllocError>, line: &mut String) {
+    match written {
+        Ok(bytes) if bytes.as_slice() == text => say(line, "same"),
+        Ok(bytes) => say_bytes(line, bytes.as_slice()),
+        Err(_) => say(line, "no memory"),
     }
 }
 
-fn say_again(alloc: Global, kind: &str, text: &str, line: &mut String) {
-    match again(alloc, kind, text.as_bytes()) {
-        Ok(bytes) if bytes.as_slice() == text.as_bytes() => say(line, "same"),
-        Ok(bytes) => say_bytes(line, bytes.as_slice()),
+fn say_root(alloc: Global, text: &[u8], line: &mut String) {
+    match read_root(alloc, text) {
+        Ok(value) => say_written(text, write_root(alloc, &value), line),
         Err(refusal) => say_refusal(line, &refusal),
+    }
+}
+
+fn say_cluster(alloc: Global, text: &[u8], line: &mut String) {
+    match read_cluster(alloc, text) {
+        Ok(value) => say_written(text, write_cluster(alloc, &value), line),
+        Err(refusal) => say_refusal(line, &refusal),
+    }
+}
+
+fn say_info(alloc: Global, text: &[u8], line: &mut String) {
+    match read_info(alloc, text) {
+        Ok(value) => say_written(text, write_info(alloc, &value), line),
+        Err(refusal) => say_refusal(line, &refusal),
+    }
+}
+
+fn say_global(alloc: Global, text: &[u8], line: &mut String) {
+    match read_global(alloc, text) {
+        Ok(value) => say_written(text, write_global(alloc, &value), line),
+        Err(refusal) => say_refusal(line, &refusal),
+    }
+}
+
+fn say_index_meta(alloc: Global, text: &[u8], line: &mut String) {
+    match read_index_meta(alloc, text) {
+        Ok(value) => say_written(text, write_index_meta(alloc, &value), line),
+        Err(refusal) => say_refusal(line, &refusal),
+    }
+}
+
+fn say_shard_snap(alloc: Global, text: &[u8], line: &mut String) {
+    match read_shard_snap(alloc, text) {
+        Ok(value) => say_written(text, write_shard_snap(alloc, &value), line),
+        Err(refusal) => say_refusal(line, &refusal),
+    }
+}
+
+fn say_index_blob(alloc: Global, text: &[u8], line: &mut String) {
+    match read_shard_index(alloc, text) {
+        Ok(value) => say_written(text, write_shard_index(alloc, &value), line),
+        Err(refusal) => say_refusal(line, &refusal),
+    }
+}
+
+/// Says what is written of what is read of a text of such a kind.
+fn say_again(alloc: Global, kind: &str, text: &[u8], line: &mut String) {
+    match kind {
+        "root" => say_root(alloc, text, line),
+        "record" => say_cluster(alloc, text, line),
+        "info" => say_info(alloc, text, line),
+        "global" => say_global(alloc, text, line),
+        "index-meta" => say_index_meta(alloc, text, line),
+        "shard-snap" => say_shard_snap(alloc, text, line),
+        "shard-index-blob" => say_index_blob(alloc, text, line),
+        _ => say(line, "no such kind"),
     }
 }
 
@@ -109,7 +130,7 @@ impl Subject for Formats {
             "shard-index" => say_shard_index(alloc, rest, line),
             "name" if read_name(rest.as_bytes()).is_some() => say(line, "some"),
             "name" => say(line, "none"),
-            _ => say_again(alloc, verb, rest, line),
+            _ => say_again(alloc, verb, rest.as_bytes(), line),
         }
     }
 }

@@ -6,7 +6,7 @@ use Rattle.std.specs.Prelude.{Ok}
 use Rattle.std.specs.FinMap as fin
 use Rattle.esr_model.specs.Values.{Bytes, IndexRef, RootData, Formats, ShardResult}
 use Rattle.esr_model.specs.Kept.{first_id}
-use Rattle.esr_core.specs.World.{World, Op, ReadState, Ticket, Work, Shard, Finalize, Deleting, Drop, Swap, swap, swap_of}
+use Rattle.esr_core.specs.World.{World, Op, ReadState, Ticket, Work, Finalize, Deleting, Swap, swap, swap_of}
 use Rattle.esr_core.specs.Tracked.{Named}
 use Rattle.esr_core.specs.Entry.{CloneOf, Snapshot}
 use Rattle.esr_core.specs.After.{asked, asked_op, new_names, clone_opened, cleanup_opened, change, raised, settled_of, done_of, failed_of, dropped_of, delete_failed, delete_settled, read_over}
@@ -24,7 +24,7 @@ use Rattle.esr_ops.specs.declared.unit.ReadyUnit.{ReadyUnit}
 use Rattle.esr_ops.specs.Asked.{asked_of, asked_index_of, IsAskable}
 use Rattle.esr_accept.specs.Accepting.{Accepting, AcceptingDelete, AcceptingCleanup}
 use Rattle.esr_progress.specs.Plans.{ticket_of}
-use Rattle.esr_ops.specs.Plan.{Plan, Seat, UnitKind, OfShard, OfFinalize, OfDelete, OfDrop, kind_of, seat_of, seat_out, IsPlanOf, IsAskedIn, IsGivenIn}
+use Rattle.esr_ops.specs.Plan.{Plan, Seat, UnitKind, OfFinalize, OfDelete, kind_of, seat_of, seat_out, IsPlanOf, IsAskedIn, IsGivenIn}
 use Rattle.esr_ops.specs.Units.{given_of, NextUnit}
 use Rattle.esr_ops.specs.Entries.{get_put}
 use Rattle.esr_test_lists.specs.Board.{is_final, is_delete, IsStart, IsBoard}
@@ -73,25 +73,19 @@ opened_board term start low below = record { w = start.w; plan = start.plan; few
 
 -- a kind for which these tests answer no
 pub of_finalize : (k : UnitKind) (r : Bool) → r ≡ not (is_final k) → r ≡ false → k ≡ OfFinalize
-of_finalize (OfShard index number) r is e = absurd (true≢false (sym is ∙ e))
 of_finalize OfFinalize r is e = refl
-of_finalize OfDelete r is e = absurd (true≢false (sym is ∙ e))
-of_finalize OfDrop r is e = absurd (true≢false (sym is ∙ e))
+of_finalize k r is e = absurd (true≢false (sym is ∙ e))
 
 pub of_delete : (k : UnitKind) (r : Bool) → r ≡ not (is_delete k) → r ≡ false → k ≡ OfDelete
-of_delete (OfShard index number) r is e = absurd (true≢false (sym is ∙ e))
-of_delete OfFinalize r is e = absurd (true≢false (sym is ∙ e))
 of_delete OfDelete r is e = refl
-of_delete OfDrop r is e = absurd (true≢false (sym is ∙ e))
+of_delete k r is e = absurd (true≢false (sym is ∙ e))
 
 abbrev with_kind : Ticket → UnitKind → Seat
 with_kind t kind = record { kind = kind; clean = t.clean; op = t.op; term = t.term; raised = t.raised; settled = t.settled }
 
 finalizes : (f : Formats) (work : Work) (root : RootData) → kind_of work ≡ OfFinalize → (s : Swap) × (swap_of f work root ≡ Some s)
-finalizes f (Shard index number) root e = absurd cc
 finalizes f (Finalize info results made) root e = (_, refl)
-finalizes f (Deleting uuids plan) root e = absurd cc
-finalizes f Drop root e = absurd cc
+finalizes f work root e = absurd cc
 
 module _ {p : Plan} {root : RootData} {term next given : ℕ} {begun : Bool} (b : IsBoard p root term next given begun) where
   -- the world of the list, with this root, term and next id

@@ -3,7 +3,7 @@ use Rattle.std.proofs.Common.{ℕ, suc, ◌+◌, ◌≤◌, Bool, true, false, c
 use Rattle.std.specs.FinMap as fin
 use Rattle.esr_model.specs.Values.{Bytes, Formats, ShardResult}
 use Rattle.esr_core.specs.World.{World, Op, Deletion, ShardWork, ReadState, RestoreShard, Restoring, Reader, Ticket, Swap}
-use Rattle.esr_core.specs.Entry.{Given, GivenShard, GivenFinalize, GivenDrop, GivenRestore, GivenClone, GivenDelete, GivenCleanup}
+use Rattle.esr_core.specs.Entry.{Given, GivenShard, GivenFinalize, GivenRestore, GivenClone}
 use Rattle.esr_core.specs.After.{shard_of, taken_by, taken_shard, taken_restore_shard, taken_restore, with_given, is_stale, settled_by, done_of, done_by, failed_of, failed_by, dropped_of, delete_failed_by, delete_failed, delete_settled_by, read_over, shard_over}
 use Rattle.esr_core.specs.Deletes.{delete_merged, delete_by}
 use Rattle.esr_core.specs.Restores.{restore_shard}
@@ -33,14 +33,11 @@ read_of w o index number (Some r) = read_one w o r (restore_shard r.shards index
 pub taken : (f : Formats) (w : World) (o : ℕ) (g : Given) (op : Option Op) → Follows 1 w (taken_by f w o g op)
 taken f w o (GivenShard index number base) (Some op) = taken_one w o op base (shard_of op.shards index number)
 taken f w o (GivenShard index number base) None = stays 1 w
-taken f w o (GivenFinalize info results) (Some op) = omega arith
 taken f w o (GivenFinalize info results) None = stays 1 w
-taken f w o GivenDrop op = omega arith
 taken f w o (GivenRestore index number uuid) op = read_of w o index number (fin.get w.restores o)
 taken f w o (GivenClone index number source base) (Some op) = taken_one w o op base (shard_of op.shards index number)
 taken f w o (GivenClone index number source base) None = stays 1 w
-taken f w o (GivenDelete uuids) op = omega arith
-taken f w o GivenCleanup op = omega arith
+taken f w o g op = omega arith
 
 -- ---- what units report
 
@@ -80,13 +77,11 @@ raises w k g (Some t) = omega arith
 
 pub settles : (f : Formats) (w : World) (k : ℕ) (t : Ticket) (s : Option Swap) (n : Option ℕ) → Follows 0 w (settled_by f w k t s n)
 settles f w k t (Some s) (Some n) = omega arith
-settles f w k t (Some s) None = stays 0 w
-settles f w k t None n = stays 0 w
+settles f w k t s n = stays 0 w
 
 pub delete_settles : (f : Formats) (w : World) (k : ℕ) (t : Ticket) (s : Option Swap) (n : Option ℕ) → Follows 0 w (delete_settled_by f w k t s n)
 delete_settles f w k t (Some s) (Some n) = omega arith
-delete_settles f w k t (Some s) None = stays 0 w
-delete_settles f w k t None n = stays 0 w
+delete_settles f w k t s n = stays 0 w
 
 pub drops : (w : World) (k : ℕ) (o : Option Ticket) → Follows 0 w (dropped_of w k o)
 drops w k None = stays 0 w

@@ -44,10 +44,9 @@ no_clash name uuid (s ∷ ss) e t (inl same) =
 no_clash name uuid (s ∷ ss) e t (inr h) = no_clash name uuid ss (or_parts (takes_one name uuid s) (list_any (takes_one name uuid) ss) e).1 t h
 
 one_by : (a b : Bool) → (if a then not b else b) ≡ false → a ≡ b
-one_by true true e = refl
 one_by true false e = absurd cc
 one_by false true e = absurd cc
-one_by false false e = refl
+one_by a b e = refl
 
 from_same : (m n : ℕ) → (m == n) ≡ true → m ≡ n
 from_same m n e = elim (eqb_tells m n) [ inl t ↦ t.1 | inr t ↦ (let yes : (m == n) ≡ true = e in let no : (m == n) ≡ false = t.0 in absurd cc) ]

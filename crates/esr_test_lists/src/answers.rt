@@ -12,7 +12,7 @@ use esr_desk::{Answer, Given};
 use esr_meta::info_read;
 use esr_names::{Id, Ids, ShardId};
 use esr_results::ShardResults;
-use esr_root::{RootData, root_read};
+use esr_root::root_read;
 use esr_scenes::Words;
 use std::alloc::Global;
 
@@ -77,10 +77,8 @@ fn looked(alloc: Global, words: &mut Words) -> Result<Answer, Trouble> {
     let Ok(safe) = words.word().parse() else {
         return Err(Trouble::Unread("not a generation"));
     };
-    let RootData {
-        snapshots,
-        indices: _indices,
-    } = root_read(alloc, words.rest().as_bytes())?;
+    let root = root_read(alloc, words.rest().as_bytes())?;
+    let snapshots = root.snapshots.try_clone(alloc)?;
     Ok(Answer::Looked { snapshots, safe })
 }
 

@@ -1,14 +1,14 @@
 //! Calls of any container, as words, and what they answer.
-ghost use Rattle.std.specs.Prelude.{◌≤◌, ◌+◌, length};
+ghost use Rattle.std.specs.Prelude.{◌≡◌, ◌≤◌, ◌+◌, length, IfOk, IfSome};
 
 use crate::client::{PutError, put_and_record};
 use crate::plan::number_of;
-use esr_depot::{CallError, Commit, Counted, Depot, Fetch, Listed, PAGE, Stage};
+use esr_depot::{CallError, Commit, Counted, Depot, Fetch, Listed, Names, PAGE, Stage};
 use esr_scenes::{
     cut, one, say, say_bytes, say_faults, say_length, say_number, say_success, unquoted,
 };
-use esr_seq::{Bytes, Seq, Text};
-use std::alloc::Global;
+use esr_seq::{Seq, Text};
+use std::alloc::{AllocError, Global};
 
 /// What a call says in a word, after what it has added to a line.
 type Said = Result<&'static str, CallError>;
@@ -21,8 +21,6 @@ pub(crate) trait Calls: Counted + Drop {
 
     /// Commits a blob in up to three pieces, with bars between them.
     fn commit_pieces(&mut self, alloc: Global, name: &str, text: &str, line: &mut String) -> Said;
-
-    fn commit_empty(&mut self, alloc: Global, name: &str) -> Result<(), CallError>;
 
     /// Commits a blob of two pieces and then puts the record, by the client of any container.
     fn put(&mut self, alloc: Global, name: &str, texts: &str) -> Said;
@@ -37,7 +35,8 @@ pub(crate) trait Calls: Counted + Drop {
     /// The names after that one, or from the first on where there is none.
     fn page(&mut self, alloc: Global, after: &str) -> Result<Seq<Listed>, CallError>;
 
-    fn text(&mut self, alloc: Global) -> Result<Option<Bytes>, CallError>;
+    /// Says the text of the record after a word, or the other word where there is none.
+    fn say_record(&mut self, alloc: Global, words: (&str, &'static str), line: &mut String) -> Said;
 }
 
 /// Writes a blob in one piece.
@@ -52,10 +51,11 @@ fn staged<D: Depot>(
     Ok(stage)
 }
 
-fn word_of(commit: Commit) -> &'static str {
-    match commit {
-        Commit::Done => "Done",
-        Commit::Exists => "Exists",
+fn word_of(answer: Result<Commit, CallError>) -> Said {
+    match answer {
+        Ok(Commit::Done) => Ok("Done"),
+        Ok(Commit::Exists) => Ok("Exists"),
+        Err(error) => Err(error),
     }
 }
 
@@ -69,6 +69,14 @@ fn write<S: Stage>(stage: &mut S, piece: &str, line: &mut String)
     }
 }
 
+/// The room that is just enough for three pieces, if there is so much.
+fn room_of(first: &str, second: &str, third: &str) -> Option<usize>
+    ensures { IfSome result (λ room. room ≡ length first.now + length second.now + length third.now) }
+{
+    let room = first.len().checked_add(second.len())?;
+    room.checked_add(third.len())
+}
+
 /// Writes a blob in up to three pieces, with bars between them, for which its room is just enough.
 fn in_pieces<D: Depot>(
     alloc: Global,
@@ -79,10 +87,7 @@ fn in_pieces<D: Depot>(
 ) -> Result<D::Stage, CallError> {
     let (first, rest) = text.split_once('|').unwrap_or((text, ""));
     let (second, third) = rest.split_once('|').unwrap_or((rest, ""));
-    let Some(room) = first.len().checked_add(second.len()) else {
-        return Err(CallError::Failed);
-    };
-    let Some(room) = room.checked_add(third.len()) else {
+    let Some(room) = room_of(first, second, third) else {
         return Err(CallError::Failed);
     };
     let mut stage = depot.begin(alloc, name, room)?;
@@ -109,15 +114,21 @@ fn say_reads<F: Fetch>(mut fetch: F, line: &mut String) {
     }
 }
 
-/// The name in a word, if there is one.
-fn name_in(word: &str) -> Option<&str> {
-    if word.is_empty() { None } else { Some(word) }
+/// One name, or two.
+fn names_of(alloc: Global, first: &str, second: &str) -> Result<Names, AllocError>
+    ensures { IfOk result (λ names. length names ≤ 1000) }
+{
+    let mut names = one(alloc, Text::from_str(alloc, first)?)?;
+    if !second.is_empty() {
+        names.push(Text::from_str(alloc, second)?)?;
+    }
+    Ok(names)
 }
 
 impl<D: Depot> Calls for D {
     fn commit_text(&mut self, alloc: Global, name: &str, text: &str) -> Said {
         let stage = staged(alloc, self, name, text)?;
-        Ok(word_of(self.commit(alloc, stage)?))
+        word_of(self.commit(alloc, stage))
     }
 
     fn replace_text(&mut self, alloc: Global, name: &str, text: &str) -> Said {
@@ -128,13 +139,7 @@ impl<D: Depot> Calls for D {
 
     fn commit_pieces(&mut self, alloc: Global, name: &str, text: &str, line: &mut String) -> Said {
         let stage = in_pieces(alloc, self, name, text, line)?;
-        Ok(word_of(self.commit(alloc, stage)?))
-    }
-
-    fn commit_empty(&mut self, alloc: Global, name: &str) -> Result<(), CallError> {
-        let stage = self.begin(alloc, name, 0)?;
-        self.commit(alloc, stage)?;
-        Ok(())
+        word_of(self.commit(alloc, stage))
     }
 
     fn put(&mut self, alloc: Global, name: &str, texts: &str) -> Said {
@@ -146,7 +151,7 @@ impl<D: Depot> Calls for D {
         }
         let (first, second, text) = (first.as_bytes(), second.as_bytes(), text.as_bytes());
         match put_and_record(alloc, self, name, first, second, text) {
-            Ok(commit) => Ok(word_of(commit)),
+            Ok(commit) => word_of(Ok(commit)),
             Err(PutError::Memory) => Err(CallError::Memory),
             Err(PutError::Depot) => Err(CallError::Failed),
             Err(PutError::Stage(_)) => Ok("stage failed"),
@@ -154,10 +159,7 @@ impl<D: Depot> Calls for D {
     }
 
     fn take_away(&mut self, alloc: Global, first: &str, second: &str) -> Said {
-        let mut names = one(alloc, Text::from_str(alloc, first)?)?;
-        if !second.is_empty() {
-            names.push(Text::from_str(alloc, second)?)?;
-        }
+        let names = names_of(alloc, first, second)?;
         self.remove(&names)?;
         Ok("ok")
     }
@@ -178,20 +180,32 @@ impl<D: Depot> Calls for D {
     }
 
     fn page(&mut self, alloc: Global, after: &str) -> Result<Seq<Listed>, CallError> {
-        Ok(self.list(alloc, name_in(after))?.page)
+        let after = (!after.is_empty()).then_some(after);
+        Ok(self.list(alloc, after)?.page)
     }
 
-    fn text(&mut self, alloc: Global) -> Result<Option<Bytes>, CallError> {
-        self.read_record(alloc)
+    fn say_record(
+        &mut self,
+        alloc: Global,
+        words: (&str, &'static str),
+        line: &mut String,
+    ) -> Said {
+        let Some(text) = self.read_record(alloc)? else {
+            return Ok(words.1);
+        };
+        say(line, words.0);
+        say_bytes(line, text.as_slice());
+        Ok("")
     }
 }
 
 /// Commits so many empty blobs of a folder, of the names 1000, 1001 and so on.
 fn fill<C: Calls>(alloc: Global, depot: &mut C, folder: &str, count: &str) -> Said {
+    let mut line = String::new(alloc);
     for number in 0..number_of(count).unwrap_or(0) {
         let number = number.saturating_add(1000);
         let name = format!(in alloc; "{folder}/{number}")?;
-        depot.commit_empty(alloc, name.as_str())?;
+        depot.commit_pieces(alloc, name.as_str(), "", &mut line)?;
     }
     Ok("ok")
 }
@@ -248,21 +262,6 @@ fn pages<C: Calls>(alloc: Global, depot: &mut C, after: &str, line: &mut String)
     Ok("and more")
 }
 
-/// Says the text of the record after a word, or the other word where there is none.
-fn record<C: Calls>(
-    alloc: Global,
-    depot: &mut C,
-    words: (&str, &'static str),
-    line: &mut String,
-) -> Said {
-    let Some(text) = depot.text(alloc)? else {
-        return Ok(words.1);
-    };
-    say(line, words.0);
-    say_bytes(line, text.as_slice());
-    Ok("")
-}
-
 /// Says names with their blobs.
 fn say_blobs<C: Calls>(
     alloc: Global,
@@ -283,7 +282,7 @@ fn say_blobs<C: Calls>(
 fn held<C: Calls>(alloc: Global, depot: &mut C, line: &mut String) -> Said {
     let page = depot.page(alloc, "")?;
     say_blobs(alloc, depot, page.as_slice(), line)?;
-    record(alloc, depot, ("record=", ""), line)
+    depot.say_record(alloc, ("record=", ""), line)
 }
 
 /// A call that looks at what is there.
@@ -293,7 +292,7 @@ fn look<C: Calls>(alloc: Global, depot: &mut C, call: &str, line: &mut String) -
         "fetch" => depot.say_blob(alloc, unquoted(rest), line),
         "list" => list(alloc, depot, rest, line),
         "pages" => pages(alloc, depot, rest, line),
-        "read-record" => record(alloc, depot, ("", "none"), line),
+        "read-record" => depot.say_record(alloc, ("", "none"), line),
         "held" => held(alloc, depot, line),
         "faults" => {
             say_number(line, depot.fault_count());
@@ -320,14 +319,6 @@ fn answer<C: Calls>(alloc: Global, depot: &mut C, call: &str, line: &mut String)
     }
 }
 
-fn say_answer(answer: Said, line: &mut String) {
-    match answer {
-        Ok(word) => say(line, word),
-        Err(CallError::Failed) => say(line, "failed"),
-        Err(CallError::Memory) => say(line, "no memory"),
-    }
-}
-
 /// Makes a call of a container, and says what it answers:
 ///
 /// | Call | What it does | Answers |
@@ -347,5 +338,10 @@ fn say_answer(answer: Said, line: &mut String) {
 ///
 /// Each answers `failed` where a call of the container does.
 pub(crate) fn say_call<C: Calls>(alloc: Global, depot: &mut C, call: &str, line: &mut String) {
-    say_answer(answer(alloc, depot, call, line), line);
+    let word = match answer(alloc, depot, call, line) {
+        Ok(word) => word,
+        Err(CallError::Failed) => "failed",
+        Err(CallError::Memory) => "no memory",
+    };
+    say(line, word);
 }

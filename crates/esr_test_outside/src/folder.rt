@@ -2,7 +2,6 @@
 use crate::calls::{Calls, say_call};
 use crate::failing::{Failing, OneCall};
 use crate::outside::say_change;
-use esr_depot::Counted;
 use esr_dirdepot::DirDepot;
 use esr_scenes::{Scene, Subject, Tally, cut, say, say_number};
 use std::alloc::{AllocError, Global};
@@ -50,14 +49,19 @@ fn failures<C: Calls>(alloc: Global, depot: &mut C, lines: &str) -> u64 {
 /// How many calls fail, how often the container says that it has failed, and how many fail when they are made again.
 type Counts = (u64, u64, u64);
 
+/// The failures of a container, which goes then.
+fn counts_of<C: Calls>(alloc: Global, mut depot: C, lines: &str) -> Counts {
+    let first = failures(alloc, &mut depot, lines);
+    let count = depot.fault_count();
+    (first, count, failures(alloc, &mut depot, lines))
+}
+
 /// The failures of a container on a new folder, where that call of the file system fails.
 fn failures_at(rt: &HostRuntime, path: &str, lines: &str, nth: u64) -> Result<Counts, AllocError> {
     let _ = fs::remove_dir_all(rt, FOLDER);
     let files = Failing::new(rt, OneCall::new(nth, false));
-    let mut depot = DirDepot::new(&files, rt.alloc(), path)?;
-    let first = failures(rt.alloc(), &mut depot, lines);
-    let count = depot.fault_count();
-    Ok((first, count, failures(rt.alloc(), &mut depot, lines)))
+    let depot = DirDepot::new(&files, rt.alloc(), path)?;
+    Ok(counts_of(rt.alloc(), depot, lines))
 }
 
 /// Says how many calls of the file system there are, and that each fails one call of the container, which counts it, and

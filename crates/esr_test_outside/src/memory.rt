@@ -14,10 +14,8 @@ pub(crate) struct Memory {
 impl Memory {
     /// An empty container for a scene of these lines.
     pub fn new(alloc: Global, lines: &str) -> Result<Memory, AllocError> {
-        let plan = plan_of(alloc, lines)?;
-        Ok(Memory {
-            depot: MemDepot::new(alloc, plan),
-        })
+        let depot = MemDepot::new(alloc, plan_of(alloc, lines)?);
+        Ok(Memory { depot })
     }
 
     /// Says what is held after a crash at the moment `MOMENT leaving LEAVES`.

@@ -68,7 +68,7 @@ fn call_of(verb: &str) -> Option<Call> {
 /// The kind of call and its number in `VERB NTH`.
 pub(crate) fn nth_of(words: &str) -> Option<(Call, u64)> {
     let (verb, nth) = cut(words);
-    Some((call_of(verb)?, number_of(nth)?))
+    call_of(verb).zip(number_of(nth))
 }
 
 /// The failure that a line `fails ..` plans, or none.

@@ -37,7 +37,7 @@ pub(crate) fn leaves_of(word: &str) -> Option<Leaves> {
 }
 
 fn failing(call: Call, nth: &str, leaves: Option<Leaves>) -> Option<Failing> {
-    let (nth, leaves) = (number_of(nth)?, leaves?);
+    let (nth, leaves) = number_of(nth).zip(leaves)?;
     Some(Failing { call, nth, leaves })
 }
 

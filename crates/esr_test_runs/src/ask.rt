@@ -1,12 +1,11 @@
 //! What a container holds, and changes of it from outside.
 use crate::errors::{Done, Trouble};
-use crate::ground::{Ground, REPO, path_of};
+use crate::ground::{Ground, REPO, say_text, write_text};
 use esr_depot::{Depot, Fetch, Stage};
 use esr_dirdepot::DirDepot;
 use esr_scenes::{one, say, say_bytes, say_number};
 use esr_seq::{Bytes, Text};
 use std::alloc::Global;
-use std::fs;
 
 /// Says bytes as a text, or as numbers.
 fn say_told(said: &mut String, bytes: &[u8], as_numbers: bool) {
@@ -18,16 +17,16 @@ fn say_told(said: &mut String, bytes: &[u8], as_numbers: bool) {
 }
 
 /// The bytes of a blob, or the first 4096 of more.
-fn front_of<F: Fetch>(alloc: Global, mut fetch: F) -> Result<Bytes, Trouble> {
+fn front_of<F: Fetch>(alloc: Global, mut fetch: F) -> Result<Option<Bytes>, Trouble> {
     let mut buf = [0; 4096];
     let count = fetch.read(&mut buf)?;
-    Ok(Bytes::from_slice(alloc, &buf[..count])?)
+    Ok(Some(Bytes::from_slice(alloc, &buf[..count])?))
 }
 
 /// The bytes of the blob of that name, or the first 4096 of more.
 fn blob_of<D: Depot>(alloc: Global, depot: &mut D, name: &str) -> Result<Option<Bytes>, Trouble> {
     match depot.fetch(alloc, name)? {
-        Some(fetch) => Ok(Some(front_of(alloc, fetch)?)),
+        Some(fetch) => front_of(alloc, fetch),
         None => Ok(None),
     }
 }
@@ -97,7 +96,9 @@ pub fn say_answer(
         Ground::Own { store } => say_of(alloc, store, what, name, said),
         Ground::Folders { rt, .. } => {
             let mut depot = DirDepot::new(*rt, alloc, REPO)?;
-            say_of(alloc, &mut depot, what, name, said)
+            let done = say_of(alloc, &mut depot, what, name, said);
+            drop(depot);
+            done
         }
     }
 }
@@ -142,7 +143,9 @@ pub fn change_there(alloc: Global, ground: &mut Ground, what: &str, value: &str)
         Ground::Own { store } => change(alloc, store, what, value),
         Ground::Folders { rt, .. } => {
             let mut depot = DirDepot::new(*rt, alloc, REPO)?;
-            change(alloc, &mut depot, what, value)
+            let done = change(alloc, &mut depot, what, value);
+            drop(depot);
+            done
         }
     }
 }
@@ -156,17 +159,11 @@ fn folders_of<'a>(ground: &Ground<'a>) -> Result<&'a HostRuntime, Trouble> {
 }
 
 /// Says the text of a file of the container's folder.
-pub fn say_file(alloc: Global, ground: &Ground, path: &str, said: &mut String) -> Done {
-    let rt = folders_of(ground)?;
-    let path = path_of(alloc, REPO, path)?;
-    say(said, fs::read_to_string(rt, path.as_str())?.as_str());
-    Ok(())
+pub fn say_file(ground: &Ground, path: &str, said: &mut String) -> Done {
+    say_text(folders_of(ground)?, said, REPO, path)
 }
 
 /// Writes a file of the container's folder.
-pub fn write_file(alloc: Global, ground: &Ground, file: &str) -> Done {
-    let rt = folders_of(ground)?;
-    let (path, text) = file.split_once('=').unwrap_or((file, ""));
-    let path = path_of(alloc, REPO, path)?;
-    Ok(fs::write(rt, path.as_str(), text)?)
+pub fn write_file(ground: &Ground, file: &str) -> Done {
+    write_text(folders_of(ground)?, REPO, file)
 }

@@ -1,6 +1,6 @@
 //! Why a scene can't be played on.
 use esr_depot::{CallError, Failed};
-use std::alloc::{AllocError, AllocFailed};
+use std::alloc::AllocError;
 use std::io;
 use std::num::ParseIntError;
 
@@ -10,12 +10,6 @@ pub struct Trouble(pub &'static str);
 
 impl From<AllocError> for Trouble {
     fn from(_: AllocError) -> Trouble {
-        Trouble("there is no memory")
-    }
-}
-
-impl<T: Drop> From<AllocFailed<T>> for Trouble {
-    fn from(_: AllocFailed<T>) -> Trouble {
         Trouble("there is no memory")
     }
 }

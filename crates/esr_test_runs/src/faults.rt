@@ -26,6 +26,7 @@ pub enum Way {
 /// The way of that name.
 pub fn way_of(name: &str) -> Result<Way, Trouble> {
     match name {
+        "once" => Ok(Way::Once),
         "old" => Ok(Way::Old),
         "new" => Ok(Way::New),
         "piece" => Ok(Way::Piece),
@@ -119,12 +120,8 @@ fn set_outside(mishaps: &mut Mishaps, what: &str, nth: u64) -> Done {
 /// Lets something go wrong in the next run.
 pub fn set_mishap(mishaps: &mut Mishaps, what: &str, value: &str) -> Done {
     match what {
-        "fail" => {
-            mishaps.fault = fault_of(value, false)?;
-            Ok(())
-        }
-        "stop" => {
-            mishaps.fault = fault_of(value, true)?;
+        "fail" | "stop" => {
+            mishaps.fault = fault_of(value, what == "stop")?;
             Ok(())
         }
         _ => set_outside(mishaps, what, value.parse()?),

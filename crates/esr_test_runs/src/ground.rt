@@ -7,12 +7,12 @@ use esr_depot::Depot;
 use esr_dirdepot::DirDepot;
 use esr_dirsource::{DirShard, DirSources, DirTarget, DirTargets};
 use esr_faulty::Faulty;
-use esr_memdepot::{Leaves, MemDepot};
+use esr_memdepot::MemDepot;
 use esr_run::Ended;
 use esr_scenes::{say, source_line};
 use esr_seq::Seq;
 use esr_source::{
-    Call, Files, ListedFile, MemOut, MemShard, MemSources, MemTarget, MemTargets, Shard, Sources,
+    Call, Files, ListedFile, MemOut, MemSources, MemTarget, MemTargets, Shard, Sources,
 };
 use esr_targets::Restored;
 use esr_test_container::Store;
@@ -65,7 +65,7 @@ pub fn ground_at(rt: &HostRuntime, place: Place) -> Result<Ground<'_>, Trouble> 
     let alloc = rt.alloc();
     match place {
         Place::Memory => Ok(Ground::Memory {
-            depot: MemDepot::new(alloc, Seq::new(alloc)),
+            depot: empty_memory(alloc),
         }),
         Place::Own => Ok(Ground::Own {
             store: Store::new(alloc),
@@ -92,7 +92,8 @@ fn claim(rt: &HostRuntime, made: &mut String, place: &str) -> Done {
     if fs::exists(rt, place)? {
         return Err(Trouble("a folder of that name was there before"));
     }
-    Ok(push_line(made, place)?)
+    push_line(made, place);
+    Ok(())
 }
 
 /// Removes the folders that this scene made.
@@ -105,12 +106,12 @@ pub fn clear(ground: &Ground) {
 }
 
 /// The path of what has that name in a folder.
-pub fn path_of(alloc: Global, folder: &str, name: &str) -> Result<String, AllocError> {
+fn path_of(alloc: Global, folder: &str, name: &str) -> Result<String, AllocError> {
     format!(in alloc; "{folder}/{name}")
 }
 
-/// Writes a file of a source.
-fn write_source_file(rt: &HostRuntime, folder: &str, file: &str) -> Done {
+/// Writes the text of a file in a folder.
+pub fn write_text(rt: &HostRuntime, folder: &str, file: &str) -> Done {
     let (name, text) = file.split_once('=').unwrap_or((file, ""));
     let path = path_of(rt.alloc(), folder, name)?;
     Ok(fs::write(rt, path.as_str(), text)?)
@@ -120,7 +121,7 @@ fn write_source_file(rt: &HostRuntime, folder: &str, file: &str) -> Done {
 fn make_folder(rt: &HostRuntime, folder: &str, files: &str) -> Done {
     fs::create_dir_all(rt, folder)?;
     for file in files.split_whitespace() {
-        write_source_file(rt, folder, file)?;
+        write_text(rt, folder, file)?;
     }
     Ok(())
 }
@@ -151,17 +152,6 @@ fn say_left(said: &mut String, targets: &[Restored<MemTarget>], status: u8) {
     say_exit(said, status);
 }
 
-/// What a run with sources and targets in memory shows.
-fn shown_in_memory<D: Depot>(
-    alloc: Global,
-    report: &[u8],
-    left: &Ended<Faulty<D>, MemShard, MemTarget>,
-) -> Shown {
-    let mut shown = shown_by(alloc, report, left);
-    say_left(&mut shown.text, left.targets.as_slice(), left.status);
-    shown
-}
-
 /// The output of a run.
 fn output_of(alloc: Global, mishaps: &Mishaps) -> Result<MemOut, AllocError> {
     let plan = plan_of(alloc, Call::Write, mishaps.write)?;
@@ -172,51 +162,35 @@ fn output_of(alloc: Global, mishaps: &Mishaps) -> Result<MemOut, AllocError> {
 fn outside_of(alloc: Global, job: &Job) -> Result<(MemSources, MemTargets, MemOut), AllocError> {
     let sources = sources_of(alloc, job.sources, job.mishaps.source)?;
     let plan = failing_at(alloc, "out", job.mishaps.target)?;
-    let out = output_of(alloc, &job.mishaps)?;
+    let out = output_of(alloc, job.mishaps)?;
     Ok((sources, MemTargets::new(plan), out))
 }
 
-/// A run over a container with sources and targets in memory: what it shows, and the container.
+/// A run over a container with sources and targets in memory, and what it shows. An empty container stands in for it meanwhile.
 fn run_over<D: Depot + Send, R: Threads + Wait + Sync>(
     alloc: Global,
     threads: &R,
-    depot: D,
+    held: &mut D,
+    empty: D,
     job: &Job,
-) -> Result<(Shown, D), AllocError>
+) -> Result<Shown, Trouble>
 where
     D::Stage: Send,
     D::Fetch: Send,
 {
+    let depot = mem::replace(held, empty);
     let (sources, targets, mut out) = outside_of(alloc, job)?;
     let left = run_on(alloc, threads, job, depot, &sources, &targets, &mut out)?;
-    let shown = shown_in_memory(alloc, out.as_slice(), &left);
-    Ok((shown, left.depot.depot))
-}
-
-/// A run in memory, and what it shows.
-fn run_in_memory<R: Threads + Wait + Sync>(
-    alloc: Global,
-    threads: &R,
-    depot: &mut MemDepot,
-    job: &Job,
-) -> Result<Shown, AllocError> {
-    let copy = depot.cut(alloc, u64::MAX, Leaves::Old)?;
-    let (shown, left) = run_over(alloc, threads, copy, job)?;
-    *depot = left;
+    let (failed, history) = (left.faults.as_slice(), left.history.as_slice());
+    let mut shown = shown_by(alloc, out.as_slice(), failed, &left.depot, history);
+    say_left(&mut shown.text, left.targets.as_slice(), left.status);
+    *held = left.depot.depot;
     Ok(shown)
 }
 
-/// A run over a container of one's own, and what it shows.
-fn run_in_own<R: Threads + Wait + Sync>(
-    alloc: Global,
-    threads: &R,
-    store: &mut Store,
-    job: &Job,
-) -> Result<Shown, AllocError> {
-    let held = mem::replace(store, Store::new(alloc));
-    let (shown, left) = run_over(alloc, threads, held, job)?;
-    *store = left;
-    Ok(shown)
+/// An empty container in memory.
+fn empty_memory(alloc: Global) -> MemDepot {
+    MemDepot::new(alloc, Seq::new(alloc))
 }
 
 /// The line of that number of what a run is asked.
@@ -245,14 +219,19 @@ fn claim_targets(rt: &HostRuntime, made: &mut String, job: &Job) -> Done {
     Ok(())
 }
 
+/// Says the text of a file in a folder.
+pub fn say_text(rt: &HostRuntime, said: &mut String, folder: &str, name: &str) -> Done {
+    let path = path_of(rt.alloc(), folder, name)?;
+    say(said, fs::read_to_string(rt, path.as_str())?.as_str());
+    Ok(())
+}
+
 /// Says the name and the text of a file in a folder.
 fn say_file(rt: &HostRuntime, said: &mut String, folder: &str, name: &str) -> Done {
-    let path = path_of(rt.alloc(), folder, name)?;
     say(said, " ");
     say(said, name);
     say(said, "=");
-    say(said, fs::read_to_string(rt, path.as_str())?.as_str());
-    Ok(())
+    say_text(rt, said, folder, name)
 }
 
 /// The files in a folder of a place. An absent folder has none.
@@ -290,9 +269,7 @@ fn say_shard<'a>(
     say_restored(said, restored);
     let place = last_word(asked_line(job, restored.line));
     let folder = path_of(rt.alloc(), place, restored.index.as_str())?;
-    say_folder(rt, said, folder.as_str(), restored.shard)?;
-    say(said, "\n");
-    Ok(())
+    say_folder(rt, said, folder.as_str(), restored.shard)
 }
 
 /// Says the shards that a run in folders restored, and its exit status.
@@ -305,6 +282,7 @@ fn say_shards<'a>(
 ) -> Done {
     for restored in targets {
         say_shard(rt, said, job, restored)?;
+        say(said, "\n");
     }
     say_exit(said, status);
     Ok(())
@@ -324,10 +302,24 @@ fn shown_in_folders(
     report: &[u8],
     left: &LeftInFolders,
 ) -> Result<Shown, Trouble> {
-    let mut shown = shown_by(rt.alloc(), report, left);
+    let (failed, history) = (left.faults.as_slice(), left.history.as_slice());
+    let mut shown = shown_by(rt.alloc(), report, failed, &left.depot, history);
     let targets = left.targets.as_slice();
     say_shards(rt, &mut shown.text, job, targets, left.status)?;
     Ok(shown)
+}
+
+/// A run over the container in its folder, and what it leaves.
+fn run_on_folders<'a, R: Threads + Wait + Sync>(
+    rt: &'a HostRuntime,
+    threads: &R,
+    job: &Job,
+    out: &mut MemOut,
+) -> Result<LeftInFolders<'a>, AllocError> {
+    let alloc = rt.alloc();
+    let depot = DirDepot::new(rt, alloc, REPO)?;
+    let (sources, targets) = (DirSources::new(rt), DirTargets::new(rt));
+    run_on(alloc, threads, job, depot, &sources, &targets, out)
 }
 
 /// A run in folders, and what it shows.
@@ -337,13 +329,12 @@ fn run_in_folders<R: Threads + Wait + Sync>(
     made: &mut String,
     job: &Job,
 ) -> Result<Shown, Trouble> {
-    let alloc = rt.alloc();
     claim_targets(rt, made, job)?;
-    let mut out = output_of(alloc, &job.mishaps)?;
-    let depot = DirDepot::new(rt, alloc, REPO)?;
-    let (sources, targets) = (DirSources::new(rt), DirTargets::new(rt));
-    let left = run_on(alloc, threads, job, depot, &sources, &targets, &mut out)?;
-    shown_in_folders(rt, job, out.as_slice(), &left)
+    let mut out = output_of(rt.alloc(), job.mishaps)?;
+    let left = run_on_folders(rt, threads, job, &mut out)?;
+    let shown = shown_in_folders(rt, job, out.as_slice(), &left);
+    drop(left);
+    shown
 }
 
 /// A run, and what it shows.
@@ -354,8 +345,8 @@ pub fn run_there<R: Threads + Wait + Sync>(
     job: &Job,
 ) -> Result<Shown, Trouble> {
     match ground {
-        Ground::Memory { depot } => Ok(run_in_memory(alloc, threads, depot, job)?),
-        Ground::Own { store } => Ok(run_in_own(alloc, threads, store, job)?),
+        Ground::Memory { depot } => run_over(alloc, threads, depot, empty_memory(alloc), job),
+        Ground::Own { store } => run_over(alloc, threads, store, Store::new(alloc), job),
         Ground::Folders { rt, made } => run_in_folders(*rt, threads, made, job),
     }
 }

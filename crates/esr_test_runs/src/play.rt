@@ -12,7 +12,7 @@ use std::thread::Threads;
 const ROUNDS: u64 = 10_000;
 
 /// The lines of a scene, and those that stand before each scene of its file, each with the number of the first one.
-#[derive(Clone, Copy)]
+#[derive(Drop)]
 struct Lines<'a> {
     title: &'a str,
     front: &'a str,
@@ -31,6 +31,9 @@ pub struct Played {
     pub failed: u64,
     /// The differences that were found.
     pub complaints: String,
+    /// The blocks that were played in the rounds of a scene, and those that it has.
+    met: u64,
+    blocks: u64,
 }
 
 /// Over what a scene is played, with which row, and in which way, by its name too.
@@ -44,13 +47,15 @@ struct Turn<'a, R> {
     name: &'a str,
 }
 
-/// How a scene has gone in one round or more.
+/// How a round of a scene has gone.
 #[derive(Clone, Copy)]
-struct Went {
-    was_hit: bool,
-    fails: bool,
-    met: u64,
-    blocks: u64,
+enum Went {
+    /// Something was found that isn't wanted.
+    Fails,
+    /// Something went wrong, as it was to.
+    Hit,
+    /// Nothing went wrong.
+    Unhit,
 }
 
 /// Plays a line with a row.
@@ -63,7 +68,7 @@ fn play_line<R: Threads + Wait + Sync>(
     let line = line.replace(scene.alloc, "<row>", row)?;
     match scene.step(threads, line.as_str()) {
         Ok(()) => Ok(()),
-        Err(Trouble(why)) => Ok(scene.complain("a line that can be played", why)?),
+        Err(Trouble(why)) => scene.verdict.complain("a line that can be played", why),
     }
 }
 
@@ -76,10 +81,10 @@ fn play_lines<R: Threads + Wait + Sync>(
     row: &str,
 ) -> Done {
     for (place, line) in text.lines().enumerate() {
-        if scene.is_over || !scene.complaint.is_empty() {
+        if scene.is_over || !scene.verdict.complaint.is_empty() {
             return Ok(());
         }
-        scene.number = at.saturating_add(place as u64);
+        scene.verdict.number = at.saturating_add(place as u64);
         play_line(threads, scene, line, row)?;
     }
     Ok(())
@@ -88,7 +93,7 @@ fn play_lines<R: Threads + Wait + Sync>(
 /// Says in which round a scene failed, and what was found.
 fn say_failed<R>(said: &mut String, lines: &Lines, turn: &Turn<R>, scene: &Scene) {
     let (place, title, way, row) = (turn.place.name(), lines.title, turn.name, turn.row);
-    let (nth, complaint) = (scene.nth, scene.complaint.as_str());
+    let (nth, complaint) = (scene.nth, scene.verdict.complaint.as_str());
     let _ = write!(
         said,
         "FAILED over {place}: {title}\n{way} {nth} {row}\n{complaint}"
@@ -98,16 +103,16 @@ fn say_failed<R>(said: &mut String, lines: &Lines, turn: &Turn<R>, scene: &Scene
 /// Adds what a round came to, and tells how it went.
 fn note<R>(played: &mut Played, lines: &Lines, turn: &Turn<R>, scene: &Scene) -> Went {
     played.runs = played.runs.saturating_add(scene.runs);
-    played.held = played.held.saturating_add(scene.held);
-    let fails = !scene.complaint.is_empty();
-    if fails {
+    played.held = played.held.saturating_add(scene.verdict.held);
+    played.met |= scene.met;
+    played.blocks |= scene.block.saturating_sub(1);
+    if !scene.verdict.complaint.is_empty() {
         say_failed(&mut played.complaints, lines, turn, scene);
-    }
-    Went {
-        was_hit: scene.was_hit,
-        fails,
-        met: scene.met,
-        blocks: scene.block.saturating_sub(1),
+        Went::Fails
+    } else if scene.was_hit {
+        Went::Hit
+    } else {
+        Went::Unhit
     }
 }
 
@@ -120,26 +125,13 @@ fn play_whole<R: Threads + Wait + Sync>(
 ) -> Done {
     play_lines(threads, scene, lines.front, lines.front_at, row)?;
     play_lines(threads, scene, lines.text, lines.at, row)?;
-    if !scene.is_over && scene.complaint.is_empty() {
-        scene.end_shown()?;
+    if scene.is_over || !scene.verdict.complaint.is_empty() {
+        return Ok(());
     }
-    Ok(())
+    scene.end_shown()
 }
 
-/// Plays a scene on its ground, which is cleared then.
-fn play_out<R: Threads + Wait + Sync>(
-    played: &mut Played,
-    lines: &Lines,
-    turn: &Turn<R>,
-    scene: &mut Scene,
-) -> Result<Went, Trouble> {
-    let ended = play_whole(turn.threads, scene, lines, turn.row);
-    clear(&scene.ground);
-    ended?;
-    Ok(note(played, lines, turn, scene))
-}
-
-/// Plays a round of a scene.
+/// Plays a round of a scene, whose ground is cleared then.
 fn play_round<R: Threads + Wait + Sync>(
     played: &mut Played,
     lines: &Lines,
@@ -148,71 +140,58 @@ fn play_round<R: Threads + Wait + Sync>(
 ) -> Result<Went, Trouble> {
     let ground = ground_at(turn.rt, turn.place)?;
     let mut scene = begun(turn.rt.alloc(), ground, turn.way, nth);
-    play_out(played, lines, turn, &mut scene)
+    let done = play_whole(turn.threads, &mut scene, lines, turn.row);
+    clear(&scene.ground);
+    let went = note(played, lines, turn, &scene);
+    drop(scene);
+    done?;
+    Ok(went)
 }
 
-/// Plays the rounds of a scene in one way, up to the first in which nothing goes wrong.
+/// Plays the rounds of a scene in one way, as many as a line of it says or up to the first in which nothing goes wrong, and tells
+/// whether it fails.
 fn play_rounds<R: Threads + Wait + Sync>(
     played: &mut Played,
     lines: &Lines,
     turn: &Turn<R>,
-) -> Result<Went, Trouble> {
-    let mut met = 0;
+) -> Result<bool, Trouble> {
+    let most: u64 = line_behind(lines.text, "most ").unwrap_or("0").parse()?;
     for nth in 1..ROUNDS {
-        let went = play_round(played, lines, turn, nth)?;
-        met |= went.met;
-        if went.fails || !went.was_hit {
-            return Ok(Went { met, ..went });
+        match play_round(played, lines, turn, nth)? {
+            Went::Fails => return Ok(true),
+            Went::Hit => {
+                if nth == most {
+                    return Ok(false);
+                }
+            }
+            Went::Unhit => return Ok(false),
         }
     }
     Err(Trouble("a scene has no last round"))
 }
 
-/// Plays the rounds of a scene in the way of that name.
-fn play_way<R: Threads + Wait + Sync>(
-    played: &mut Played,
-    lines: &Lines,
-    turn: &Turn<R>,
-    name: &str,
-) -> Result<Went, Trouble> {
-    let way = way_of(name)?;
-    play_rounds(played, lines, &Turn { way, name, ..*turn })
-}
-
 const UNPLAYED: &str = "\n  wanted: each block is played in a round\n  came:   one is in none\n";
 
-/// Plays a scene with a row in the ways of these names, and tells whether it fails.
-fn play_each<R: Threads + Wait + Sync>(
-    played: &mut Played,
-    lines: &Lines,
-    turn: &Turn<R>,
-    names: &str,
-) -> Result<bool, Trouble> {
-    let (mut met, mut blocks) = (0, 0);
-    for name in names.split_whitespace() {
-        let went = play_way(played, lines, turn, name)?;
-        if went.fails {
-            return Ok(true);
-        }
-        met |= went.met;
-        blocks |= went.blocks;
-    }
-    if met != blocks {
-        let _ = write!(played.complaints, "FAILED: {}{UNPLAYED}", lines.title);
-    }
-    Ok(met != blocks)
-}
-
-/// Plays a scene with a row in each of its ways, and tells whether it fails.
+/// Plays a scene with a row in each of its ways, or once, and tells whether it fails.
 fn play_ways<R: Threads + Wait + Sync>(
     played: &mut Played,
     lines: &Lines,
     turn: &Turn<R>,
 ) -> Result<bool, Trouble> {
-    match line_behind(lines.text, "each ") {
-        Some(names) => play_each(played, lines, turn, names),
-        None => Ok(play_round(played, lines, turn, 0)?.fails),
+    played.met = 0;
+    played.blocks = 0;
+    let names = line_behind(lines.text, "each ").unwrap_or("once");
+    for name in names.split_whitespace() {
+        let way = way_of(name)?;
+        if play_rounds(played, lines, &Turn { way, name, ..*turn })? {
+            return Ok(true);
+        }
     }
+    let fails = played.met != played.blocks;
+    if fails {
+        let _ = write!(played.complaints, "FAILED: {}{UNPLAYED}", lines.title);
+    }
+    Ok(fails)
 }
 
 /// Plays a scene with each of its rows, and tells whether it fails.
@@ -317,6 +296,8 @@ pub fn play_file<R: Threads + Wait + Sync>(
         held: 0,
         failed: 0,
         complaints: String::new(rt.alloc()),
+        met: 0,
+        blocks: 0,
     };
     play_scenes(rt, threads, &mut played, text.as_str())?;
     Ok(played)

@@ -5,12 +5,21 @@ use crate::faults::{Way, set_mishap, set_round};
 use crate::ground::{Ground, add_source, has_line, run_there};
 use crate::meeting::Meeting;
 use crate::setting::{Job, Mishaps, calm};
-use crate::shown::Shown;
-use crate::text::{counted_blobs, front_of, line_behind, plain, push_line};
+use crate::shown::{Shown, nothing_shown};
+use crate::text::{counted_blobs, front_of, plain, push_line};
 use esr_scenes::{say, say_number};
-use std::alloc::{AllocError, Global};
+use std::alloc::Global;
+use std::mem;
 use std::sync::Wait;
 use std::thread::Threads;
+
+/// The number of a scene's line, how many lines held, and the first difference that was found.
+#[derive(Drop)]
+pub struct Verdict {
+    pub number: u64,
+    pub held: u64,
+    pub complaint: String,
+}
 
 /// What a scene has come to.
 #[derive(Drop)]
@@ -28,17 +37,12 @@ pub struct Scene<'a> {
     pub last: String,
     /// What the workers of the runs come to, which holds one of them once or none.
     pub gate: Meeting,
-    /// What was shown, and how many bytes of it were compared.
-    pub shown: String,
+    /// What the last run has shown and tells, and how many bytes of its text were compared.
+    pub shown: Shown,
     pub at: usize,
-    /// What the last run tells that isn't shown.
-    pub faults: u64,
-    pub told: u64,
-    pub settles: u64,
-    pub misprints: String,
     /// Whether the next run is the one in which the round lets something go wrong.
     pub is_armed: bool,
-    /// Whether something went wrong there, what that run showed, and the record after it.
+    /// Whether something went wrong there, and what the last run that is asked for showed, with the record after it.
     pub was_hit: bool,
     pub hit: String,
     pub record: String,
@@ -50,12 +54,9 @@ pub struct Scene<'a> {
     pub skips: bool,
     /// Whether the rest of the scene doesn't count.
     pub is_over: bool,
-    /// The number of the line, how many runs there were, and how many lines held.
-    pub number: u64,
+    /// How many runs there were.
     pub runs: u64,
-    pub held: u64,
-    /// The first difference that was found.
-    pub complaint: String,
+    pub verdict: Verdict,
 }
 
 /// A scene at its beginning.
@@ -70,12 +71,8 @@ pub fn begun(alloc: Global, ground: Ground<'_>, way: Way, nth: u64) -> Scene<'_>
         mishaps: calm(),
         last: String::new(alloc),
         gate: Meeting::new(false),
-        shown: String::new(alloc),
+        shown: nothing_shown(alloc),
         at: 0,
-        faults: 0,
-        told: 0,
-        settles: 0,
-        misprints: String::new(alloc),
         is_armed: false,
         was_hit: false,
         hit: String::new(alloc),
@@ -85,43 +82,41 @@ pub fn begun(alloc: Global, ground: Ground<'_>, way: Way, nth: u64) -> Scene<'_>
         is_chosen: false,
         skips: false,
         is_over: false,
-        number: 0,
         runs: 0,
-        held: 0,
-        complaint: String::new(alloc),
+        verdict: Verdict {
+            number: 0,
+            held: 0,
+            complaint: String::new(alloc),
+        },
     }
 }
 
 /// Adds to a script a text with its number, and an end.
-fn write_numbered(
-    alloc: Global,
-    script: &mut String,
-    (text, end): (&str, &str),
-    number: u64,
-) -> Result<(), AllocError> {
+fn write_numbered(alloc: Global, script: &mut String, (text, end): (&str, &str), number: u64) {
     let mut digits = String::new(alloc);
     say_number(&mut digits, number);
-    let text = text.replace(alloc, "<n>", digits.as_str())?;
-    script.push_str(text.as_str())?;
-    script.push_str(end)
+    if let Ok(text) = text.replace(alloc, "<n>", digits.as_str()) {
+        say(script, text.as_str());
+        say(script, end);
+    }
 }
 
-impl Scene<'_> {
-    /// What was shown and not compared yet.
-    fn rest(&self) -> &str {
-        match self.shown.as_str().split_at_checked(self.at) {
-            Some((_, rest)) => rest,
-            None => "",
-        }
+/// What is behind so many bytes.
+fn rest_of(text: &str, at: usize) -> &str {
+    match text.split_at_checked(at) {
+        Some((_, rest)) => rest,
+        None => "",
     }
+}
 
-    /// The next line of that.
-    fn next_line(&self) -> &str {
-        self.rest().lines().next().unwrap_or("nothing")
-    }
+/// The first line of a text.
+fn first_line(text: &str) -> &str {
+    text.lines().next().unwrap_or("nothing")
+}
 
+impl Verdict {
     /// Notes a difference, unless there was one.
-    pub fn complain(&mut self, wanted: &str, came: &str) -> Result<(), AllocError> {
+    pub fn complain(&mut self, wanted: &str, came: &str) -> Done {
         if self.complaint.is_empty() {
             let number = self.number;
             write!(
@@ -133,21 +128,23 @@ impl Scene<'_> {
     }
 
     /// Notes that a line holds, or what came in its place.
-    fn judge(&mut self, holds: bool, wanted: &str, came: &str) -> Result<(), AllocError> {
+    fn judge(&mut self, holds: bool, wanted: &str, came: &str) -> Done {
         if holds {
             self.held = self.held.saturating_add(1);
             return Ok(());
         }
         self.complain(wanted, came)
     }
+}
 
+impl Scene<'_> {
     /// Notes a difference where more was shown than was compared.
-    pub fn end_shown(&mut self) -> Result<(), AllocError> {
-        if self.rest().is_empty() {
+    pub fn end_shown(&mut self) -> Done {
+        let rest = rest_of(self.shown.text.as_str(), self.at);
+        if rest.is_empty() {
             return Ok(());
         }
-        let came = String::from_str(self.alloc, self.next_line())?;
-        self.complain("nothing more", came.as_str())
+        self.verdict.complain("nothing more", first_line(rest))
     }
 
     /// How many bytes of a line of the report the output took, in a round that leaves too little room.
@@ -160,54 +157,57 @@ impl Scene<'_> {
     }
 
     /// Compares a line with what was shown next.
-    fn want(&mut self, line: &str) -> Result<(), AllocError> {
-        let mut whole = String::new(self.alloc);
-        push_line(&mut whole, line)?;
+    fn want(&mut self, line: &str) -> Done {
+        let whole = format!(in self.alloc; "{line}\n")?;
         self.want_front(line, front_of(whole.as_str(), self.length_taken(line)))
     }
 
     /// Compares what is wanted of a line with what was shown next.
-    fn want_front(&mut self, line: &str, wanted: &str) -> Result<(), AllocError> {
-        let came = String::from_str(self.alloc, self.next_line())?;
-        let holds = self.rest().starts_with(wanted);
+    fn want_front(&mut self, line: &str, wanted: &str) -> Done {
+        let rest = rest_of(self.shown.text.as_str(), self.at);
         self.at = self.at.saturating_add(wanted.len());
-        self.judge(holds, line, came.as_str())
+        self.verdict
+            .judge(rest.starts_with(wanted), line, first_line(rest))
     }
 
     /// Goes past so many lines of what was shown.
-    fn pass_lines(&mut self, count: u64) -> Result<(), AllocError> {
+    fn pass_lines(&mut self, count: u64) -> Done {
         for _ in 0..count {
-            let Some((line, _)) = self.rest().split_once('\n') else {
-                return self.complain("more lines", "nothing");
+            let rest = rest_of(self.shown.text.as_str(), self.at);
+            let Some((line, _)) = rest.split_once('\n') else {
+                return self.verdict.complain("more lines", "nothing");
             };
             let length = line.len().saturating_add(1);
             self.at = self.at.saturating_add(length);
         }
-        self.judge(true, "", "")
+        self.verdict.judge(true, "", "")
     }
 
     /// Goes past as many lines as a word says.
     fn pass(&mut self, count: &str) -> Done {
         let count = count.parse()?;
-        Ok(self.pass_lines(count)?)
+        self.pass_lines(count)
     }
 
-    /// Whether the run in which something went wrong showed one of these lines.
-    fn want_told(&mut self, lines: &str) -> Result<(), AllocError> {
+    /// Whether the run that is asked for showed one of these lines.
+    fn want_told(&mut self, lines: &str) -> Done {
         let hit = self.hit.as_str();
         let mut holds = false;
         for line in lines.split(" | ") {
             holds = holds || has_line(hit, line);
         }
-        let came = String::from_str(self.alloc, hit)?;
-        self.judge(holds, lines, came.as_str())
+        self.verdict.judge(holds, lines, hit)
     }
 
-    /// Whether the run in which something went wrong showed no line that begins so.
-    fn want_untold(&mut self, front: &str) -> Result<(), AllocError> {
-        let holds = line_behind(self.hit.as_str(), front).is_none();
-        let came = String::from_str(self.alloc, self.hit.as_str())?;
-        self.judge(holds, "no such line", came.as_str())
+    /// Whether that run showed no line that begins so but those behind it.
+    fn want_untold(&mut self, lines: &str) -> Done {
+        let (front, others) = lines.split_once(" | ").unwrap_or((lines, ""));
+        let others = others.replace(self.alloc, " | ", "\n")?;
+        let mut holds = true;
+        for line in self.hit.as_str().lines() {
+            holds = holds && (!line.starts_with(front) || has_line(others.as_str(), line));
+        }
+        self.verdict.judge(holds, lines, self.hit.as_str())
     }
 
     /// Begins a block, which counts where the record has this piece and no block before it did.
@@ -221,18 +221,18 @@ impl Scene<'_> {
     }
 
     /// Adds a text to the script so many times, each with its number from 0 on and with that end.
-    fn write_times(&mut self, text: &str, end: &str, count: u64) -> Result<(), AllocError> {
+    fn write_times(&mut self, text: &str, end: &str, count: u64) {
         for number in 0..count {
-            write_numbered(self.alloc, &mut self.script, (text, end), number)?;
+            write_numbered(self.alloc, &mut self.script, (text, end), number);
         }
-        Ok(())
     }
 
     /// Adds to the script a text as often as a word says, each with that end.
     fn write_many(&mut self, count: &str, text: &str, end: &str) -> Done {
         let count = count.parse::<u64>()?;
         let text = plain(self.alloc, text)?;
-        Ok(self.write_times(text.as_str(), end, count)?)
+        self.write_times(text.as_str(), end, count);
+        Ok(())
     }
 
     /// Adds to the script: a line, a last text, or one of them so many times.
@@ -248,16 +248,12 @@ impl Scene<'_> {
 
     /// Adds a source.
     fn add_source(&mut self, line: &str) -> Done {
-        push_line(&mut self.sources, line)?;
+        push_line(&mut self.sources, line);
         add_source(&mut self.ground, line)
     }
 
     /// Runs the script by these words.
-    fn run_words<R: Threads + Wait + Sync>(
-        &mut self,
-        threads: &R,
-        words: &str,
-    ) -> Result<Shown, Trouble> {
+    fn run_words<R: Threads + Wait + Sync>(&mut self, threads: &R, words: &str) -> Done {
         if self.is_armed {
             set_round(&mut self.mishaps, self.way, self.nth);
         }
@@ -265,57 +261,51 @@ impl Scene<'_> {
             words,
             script: self.script.as_str(),
             sources: self.sources.as_str(),
-            mishaps: self.mishaps,
+            mishaps: &self.mishaps,
             last: self.last.as_str(),
             gate: &self.gate,
         };
-        let shown = run_there(self.alloc, threads, &mut self.ground, &job)?;
+        self.shown = run_there(self.alloc, threads, &mut self.ground, &job)?;
         self.runs = self.runs.saturating_add(1);
         self.script.clear();
         self.last.clear();
-        Ok(shown)
-    }
-
-    /// Keeps what a run in which the round lets something go wrong showed. One that had room for all ends the scene.
-    fn keep_hit(&mut self, mut text: String, was_hit: bool) -> Done {
-        if matches!(self.way, Way::Room) {
-            self.was_hit = text.as_str().ends_with("exit 5\n");
-            self.is_over = !self.was_hit;
-            self.shown = text;
-            return Ok(());
-        }
-        self.was_hit = was_hit;
-        write!(text, "settles {}\n", self.settles)?;
-        self.record = self.answer("record", "")?;
-        self.hit = text;
         Ok(())
     }
 
-    /// Keeps what a run tells, and what it showed: to be compared, or unseen of a run that is to be stopped.
-    fn keep(&mut self, mark: &str, shown: Shown) -> Done {
-        self.faults = shown.faults;
-        self.told = shown.told;
-        self.settles = shown.settles;
-        self.misprints = shown.misprints;
-        let was_hit = shown.was_hit;
-        let text = shown.text;
-        self.shown.clear();
-        self.at = 0;
-        if self.is_armed {
-            return self.keep_hit(text, was_hit);
-        }
-        if mark == "~" {
-            self.judge(was_hit, "a run that is stopped", text.as_str())?;
+    /// Puts what a run that is asked for showed aside. One in which the output had room for all ends the scene.
+    fn keep_hit(&mut self) -> Done {
+        if matches!(self.way, Way::Room) {
+            self.was_hit = self.shown.text.as_str().ends_with("exit 5\n");
+            self.is_over = !self.was_hit;
             return Ok(());
         }
-        self.shown = text;
+        self.was_hit |= self.shown.was_hit;
+        let settles = self.shown.settles;
+        write!(self.shown.text, "settles {settles}\n")?;
+        self.hit = mem::replace(&mut self.shown.text, String::new(self.alloc));
+        self.record = self.answer("record", "")?;
+        Ok(())
+    }
+
+    /// Has what the last run showed compared, or puts it aside, or leaves it unseen of a run that is to be stopped.
+    fn keep(&mut self, mark: &str) -> Done {
+        self.at = 0;
+        if self.is_armed || mark == "&" {
+            return self.keep_hit();
+        }
+        if mark == "~" {
+            let (was_hit, text) = (self.shown.was_hit, self.shown.text.as_str());
+            self.verdict.judge(was_hit, "a run that is stopped", text)?;
+            self.shown.text.clear();
+        }
         Ok(())
     }
 
     /// Lets nothing go wrong in the next run. A run that tells more failures of the container than it had is a difference.
     fn end_run(&mut self) -> Done {
-        if self.told > self.faults {
-            self.complain("no more failures than the container had", "more")?;
+        if self.shown.told > self.shown.faults {
+            self.verdict
+                .complain("no more failures than the container had", "more")?;
         }
         self.is_armed = false;
         let room = self.mishaps.room;
@@ -328,9 +318,10 @@ impl Scene<'_> {
     fn run<R: Threads + Wait + Sync>(&mut self, threads: &R, mark: &str, words: &str) -> Done {
         self.end_shown()?;
         let words = plain(self.alloc, words)?;
-        let shown = self.run_words(threads, words.as_str());
+        let done = self.run_words(threads, words.as_str());
         drop(words);
-        self.keep(mark, shown?)?;
+        done?;
+        self.keep(mark)?;
         self.end_run()
     }
 
@@ -341,10 +332,11 @@ impl Scene<'_> {
             "put" | "remove" | "shorten" | "record" => {
                 change_there(self.alloc, &mut self.ground, what, value)
             }
-            "file" => write_file(self.alloc, &self.ground, value),
+            "file" => write_file(&self.ground, value),
             "stop-at" => {
                 self.last.clear();
-                Ok(self.last.push_str(value)?)
+                say(&mut self.last, value);
+                Ok(())
             }
             "meet" => {
                 self.gate = Meeting::new(true);
@@ -363,7 +355,7 @@ impl Scene<'_> {
 
     /// Whether the container there holds `index.latest`, the blobs that the last run's check counted, and no more.
     fn is_clean(&mut self) -> Result<bool, Trouble> {
-        let counted = counted_blobs(self.shown.as_str())?;
+        let counted = counted_blobs(self.shown.text.as_str())?;
         let count = self.answer("blobs", "")?.as_str().parse::<u64>()?;
         let latest = self.answer("there", "index.latest")?;
         Ok(latest.as_str() == "true" && count == counted.saturating_add(1))
@@ -373,12 +365,12 @@ impl Scene<'_> {
     fn say(&mut self, question: &str, said: &mut String) -> Done {
         let (what, name) = question.split_once(' ').unwrap_or((question, ""));
         match what {
-            "faults" => say_number(said, self.faults),
-            "misprints" => say(said, self.misprints.as_str().trim_start()),
+            "faults" => say_number(said, self.shown.faults),
+            "misprints" => say(said, self.shown.misprints.as_str().trim_start()),
             "met" => say(said, if self.gate.has_met() { "true" } else { "false" }),
             "clean" => say(said, if self.is_clean()? { "true" } else { "false" }),
-            "file" => say_file(self.alloc, &self.ground, name, said)?,
-            _ => say_answer(self.alloc, &mut self.ground, what, name, said)?,
+            "file" => return say_file(&self.ground, name, said),
+            _ => return say_answer(self.alloc, &mut self.ground, what, name, said),
         }
         Ok(())
     }
@@ -389,11 +381,11 @@ impl Scene<'_> {
         let mut came = String::new(self.alloc);
         self.say(question, &mut came)?;
         let holds = came.as_str() == wanted;
-        Ok(self.judge(holds, line, came.as_str())?)
+        self.verdict.judge(holds, line, came.as_str())
     }
 
     /// Compares a line with what was shown.
-    fn compare(&mut self, mark: &str, rest: &str, line: &str) -> Result<(), AllocError> {
+    fn compare(&mut self, mark: &str, rest: &str, line: &str) -> Done {
         match mark {
             "told" => self.want_told(rest),
             "untold" => self.want_untold(rest),
@@ -410,7 +402,7 @@ impl Scene<'_> {
         line: &str,
     ) -> Done {
         match mark {
-            "$" | "~" => self.run(threads, mark, rest),
+            "$" | "~" | "&" => self.run(threads, mark, rest),
             "!" => self.set(rest),
             "?" => self.ask(rest),
             "=" => self.add_source(rest),
@@ -420,8 +412,8 @@ impl Scene<'_> {
                 Ok(())
             }
             ">" | "|" | "*" | "+" => self.write(mark, rest),
-            "#" | "only" | "row" | "then" => Ok(()),
-            _ => Ok(self.compare(mark, rest, line)?),
+            "#" | "only" | "row" | "most" | "then" => Ok(()),
+            _ => self.compare(mark, rest, line),
         }
     }
 

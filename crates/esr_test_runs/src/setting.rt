@@ -7,8 +7,8 @@ use esr_scenes::{one, source_of};
 use esr_script::Words;
 use esr_seq::{Bytes, Seq, Text};
 use esr_source::{
-    Address, Call, Failing, FailingAt, MemLines, MemOut, MemSource, MemSources, Plan, Sources,
-    Targets,
+    Address, Call, Failing, FailingAt, Gate, Lines, MemLines, MemOut, MemSource, MemSources, Out,
+    Plan, Sources, Targets,
 };
 use std::alloc::{AllocError, Global};
 use std::sync::Wait;
@@ -16,7 +16,7 @@ use std::thread::Threads;
 
 /// Which call of the container, of the source `src`, of the target of `logs` below `out`, which read of the script and which write
 /// of the output fails, each counted from 1, and how many bytes the output takes.
-#[derive(Clone, Copy)]
+#[derive(Drop)]
 pub struct Mishaps {
     pub fault: Fault,
     pub source: Failing,
@@ -33,7 +33,7 @@ pub struct Job<'a> {
     pub words: &'a str,
     pub script: &'a str,
     pub sources: &'a str,
-    pub mishaps: Mishaps,
+    pub mishaps: &'a Mishaps,
     pub last: &'a str,
     pub gate: &'a Meeting,
 }
@@ -128,6 +128,31 @@ fn lines_of(alloc: Global, job: &Job) -> Result<MemLines, AllocError> {
     Ok(MemLines::new(bytes, plan))
 }
 
+/// A run that tells contracts nothing. At types that aren't known a call of `run` is proved far sooner.
+fn run_untold<
+    D: Depot + Send,
+    S: Sources,
+    T: Targets,
+    G: Gate,
+    I: Lines,
+    O: Out,
+    R: Threads + Wait + Sync,
+>(
+    threads: &R,
+    alloc: Global,
+    words: &Words,
+    lines: &mut I,
+    depot: D,
+    host: &Host<'_, S, T, G>,
+    out: &mut O,
+) -> Ended<D, S::Shard, T::Target>
+where
+    D::Stage: Send,
+    D::Fetch: Send,
+{
+    run(threads, alloc, words, lines, depot, host, out)
+}
+
 /// Runs over that container.
 pub fn run_on<D: Depot + Send, S: Sources, T: Targets, R: Threads + Wait + Sync>(
     alloc: Global,
@@ -151,5 +176,5 @@ where
         gate: job.gate,
         moment: 0,
     };
-    Ok(run(threads, alloc, &words, &mut lines, depot, &host, out))
+    Ok(run_untold(threads, alloc, &words, &mut lines, depot, &host, out))
 }

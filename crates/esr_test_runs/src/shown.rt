@@ -1,10 +1,9 @@
 //! What a run shows, and what its history tells.
-use esr_depot::{Counted, Depot};
+use esr_depot::Counted;
 use esr_desk::{Answer, Entry, EntryRefusal, FailedObject, Fault, Read, Step, Why};
 use esr_dirsource::DirTarget;
 use esr_faulty::Faulty;
 use esr_hash::{Print, print_text};
-use esr_run::Ended;
 use esr_scenes::{say, say_bytes, say_number};
 use esr_source::MemTarget;
 use esr_targets::Restored;
@@ -47,6 +46,18 @@ pub struct Shown {
     pub misprints: String,
     /// Whether the call that goes wrong was made, or was to be.
     pub was_hit: bool,
+}
+
+/// What is shown before a run.
+pub fn nothing_shown(alloc: Global) -> Shown {
+    Shown {
+        text: String::new(alloc),
+        faults: 0,
+        told: 0,
+        settles: 0,
+        misprints: String::new(alloc),
+        was_hit: false,
+    }
 }
 
 /// A word for an object that failed, and how often it did.
@@ -128,51 +139,39 @@ fn say_misprint(said: &mut String, entry: &Entry) {
     }
 }
 
-/// Says the prints that the entries state and find of files that have others.
-fn say_misprints(said: &mut String, entries: &[Entry]) {
+/// Says the prints of the entries that fail for them. Answers how many tell that the container failed, and how many may settle.
+fn say_misprints(said: &mut String, entries: &[Entry]) -> (u64, u64) {
+    let (mut faults, mut settles) = (0u64, 0u64);
     for entry in entries {
         say_misprint(said, entry);
+        faults = faults.saturating_add(is_fault(entry) as u64);
+        settles = settles.saturating_add(may_settle(entry) as u64);
     }
+    (faults, settles)
 }
 
-/// How many entries tell that the container failed.
-fn count_faults(entries: &[Entry]) -> u64 {
-    let mut count = 0u64;
-    for entry in entries {
-        count = count.saturating_add(is_fault(entry) as u64);
-    }
-    count
-}
-
-/// How many entries are settles whose record may stand.
-fn count_settles(entries: &[Entry]) -> u64 {
-    let mut count = 0u64;
-    for entry in entries {
-        count = count.saturating_add(may_settle(entry) as u64);
-    }
-    count
-}
-
-/// What a run shows but the shards that it restored and its exit status.
-pub fn shown_by<D: Depot, H: Counted, T: Counted + Shows>(
+/// What a run shows but the shards that it restored and its exit status: its report, the objects that failed, and what its
+/// container and its history tell.
+pub fn shown_by<D: Counted, S: Counted, F: Counted, H: Counted, T: Counted + Shows>(
     alloc: Global,
     report: &[u8],
-    left: &Ended<Faulty<D>, H, T>,
+    failed: &[Fault<S, F, H, T>],
+    depot: &Faulty<D>,
+    history: &[Entry],
 ) -> Shown {
-    let entries = left.history.as_slice();
     let mut text = String::new(alloc);
     say_bytes(&mut text, report);
-    for fault in left.faults.as_slice() {
+    for fault in failed {
         say_failed(&mut text, fault);
     }
     let mut misprints = String::new(alloc);
-    say_misprints(&mut misprints, entries);
+    let (told, settles) = say_misprints(&mut misprints, history);
     Shown {
         text,
-        faults: left.depot.fault_count(),
-        told: count_faults(entries),
-        settles: count_settles(entries),
+        faults: depot.fault_count(),
+        told,
+        settles,
         misprints,
-        was_hit: left.depot.was_hit,
+        was_hit: depot.was_hit,
     }
 }

@@ -1,5 +1,6 @@
 //! The texts of scenes.
 use crate::errors::Trouble;
+use esr_scenes::say;
 use std::alloc::{AllocError, Global};
 
 /// What stands for a byte that isn't to be seen in a scene, and that byte.
@@ -21,9 +22,9 @@ pub fn plain(alloc: Global, text: &str) -> Result<String, AllocError> {
 }
 
 /// Adds a line to a text.
-pub fn push_line(text: &mut String, line: &str) -> Result<(), AllocError> {
-    text.push_str(line)?;
-    text.push_str("\n")
+pub fn push_line(text: &mut String, line: &str) {
+    say(text, line);
+    say(text, "\n");
 }
 
 /// The first so many bytes of a text, or all of a shorter one.

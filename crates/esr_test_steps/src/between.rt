@@ -14,19 +14,17 @@ ghost use Rattle.esr_desk.specs.Shown.{IsShown};
 use crate::told::{tell, tell_commit, tell_number, tell_refused};
 use esr_depot::{Commit, Listing};
 use esr_desk::{
-    Attempt, Basis, Desk, Failure, Named, NewBlob, Planned, RestoreEnd, Sole, Unended, Unit, Who,
+    Attempt, Basis, Desk, Failure, Named, NewBlob, Planned, RestoreEnd, Unended, Unit, Who,
 };
-use esr_handle::{Handle, Share, Since};
 use esr_names::{BlobName, Id};
 use esr_results::ShardResult;
 use esr_root::RootData;
 use esr_seq::Seq;
 use std::alloc::Global;
-use std::sync::Wait;
 
 /// Where the next term begins: just after the next raise or the next plan, or just before the next drop; or, by a desk that has
 /// no turn, just before the next take.
-#[derive(Clone, Copy, Debug)]
+#[derive(Clone, Copy)]
 pub(crate) enum Due {
     Raise,
     Plan,
@@ -35,22 +33,10 @@ pub(crate) enum Due {
     Never,
 }
 
-/// Who begins terms.
-pub(crate) trait Elector {
-    /// Begins the next term.
-    fn begin_term(&mut self, alloc: Global) -> Attempt<u64>;
-}
-
-impl<Q: Sole, B: Since, W: Share, R: Wait + Sync> Elector for Handle<'_, Q, B, W, R> {
-    fn begin_term(&mut self, alloc: Global) -> Attempt<u64> {
-        self.elect(alloc)
-    }
-}
-
-/// The desk of a worker, who elects beside it, and what was told of their steps.
-pub(crate) struct Between<Q, E> {
+/// The desk of a worker, that of who elects beside it, and what was told of their steps.
+pub(crate) struct Between<Q> {
     pub(crate) own: Q,
-    pub(crate) elector: E,
+    pub(crate) elector: Q,
     pub(crate) due: Due,
     pub(crate) told: String,
 }
@@ -70,7 +56,7 @@ fn is_due(due: &mut Due, at: Due) -> bool {
     is
 }
 
-impl<Q: Desk, E: Elector> Desk for Between<Q, E> {
+impl<Q: Desk> Desk for Between<Q> {
     type Stage = Q::Stage;
 
     type Fetch = Q::Fetch;
@@ -91,7 +77,7 @@ impl<Q: Desk, E: Elector> Desk for Between<Q, E> {
 
     fn take(&mut self, alloc: Global) -> Attempt<Option<Unit>> {
         if is_due(&mut self.due, Due::Take) {
-            let term = self.elector.begin_term(alloc);
+            let term = self.elector.elect(alloc);
             tell_number(&mut self.told, "elect", &term);
         }
         let answer = self.own.take(alloc);
@@ -162,7 +148,7 @@ impl<Q: Desk, E: Elector> Desk for Between<Q, E> {
         let answer = self.own.raise(alloc, ticket);
         tell_number(&mut self.told, "raise", &answer);
         if is_due(&mut self.due, Due::Raise) {
-            let term = self.elector.begin_term(alloc);
+            let term = self.elector.elect(alloc);
             tell_number(&mut self.told, "elect", &term);
         }
         answer
@@ -178,7 +164,7 @@ impl<Q: Desk, E: Elector> Desk for Between<Q, E> {
         let answer = self.own.plan(alloc, ticket, basis);
         tell(&mut self.told, "plan", &answer);
         if is_due(&mut self.due, Due::Plan) {
-            let term = self.elector.begin_term(alloc);
+            let term = self.elector.elect(alloc);
             tell_number(&mut self.told, "elect", &term);
         }
         answer
@@ -239,7 +225,7 @@ impl<Q: Desk, E: Elector> Desk for Between<Q, E> {
 
     fn end_drop(&mut self, alloc: Global, ticket: u64) -> Attempt {
         if is_due(&mut self.due, Due::Drop) {
-            let term = self.elector.begin_term(alloc);
+            let term = self.elector.elect(alloc);
             tell_number(&mut self.told, "elect", &term);
         }
         let answer = self.own.end_drop(alloc, ticket);

@@ -7,7 +7,7 @@ use esr_desk::{Desk, Sole};
 use esr_drive::{Outside, work};
 use esr_handle::{Handle, Share, Since, Sitting};
 use esr_scenes::say;
-use esr_source::{Gate, Sources, Targets};
+use esr_source::{NoGate, Sources, Targets};
 use esr_turns::{Pass, TurnLock};
 use std::alloc::Global;
 use std::marker::Brand;
@@ -27,13 +27,13 @@ fn share_of(due: Due) -> u64
 }
 
 /// Works all units by the desk of one pass, beside which that of the other begins the next term. What was told of the steps.
-fn work_both<Q: Sole, S, T, G: Gate, B: Since, W: Share, R: Wait + Sync>(
+fn work_both<Q: Sole, S, T, B: Since, W: Share, R: Wait + Sync>(
     rt: &R,
     alloc: Global,
     lock: &TurnLock<Sitting<Q, B>>,
     one: Pass<Sitting<Q, B>>,
     other: Pass<Sitting<Q, B>>,
-    outside: &Outside<'_, S, T, G>,
+    outside: &Outside<'_, S, T, NoGate>,
     due: Due,
 ) -> (Pass<Sitting<Q, B>>, Pass<Sitting<Q, B>>, String)
 where
@@ -77,12 +77,12 @@ where
 }
 
 /// Works all units at the lock, and closes it.
-fn sit_at<Q: Sole, S, T, G: Gate, B: Since, R: Wait + Sync>(
+fn sit_at<Q: Sole, S, T, B: Since, R: Wait + Sync>(
     rt: &R,
     alloc: Global,
     lock: TurnLock<Sitting<Q, B>>,
     pass: Pass<Sitting<Q, B>>,
-    outside: &Outside<'_, S, T, G>,
+    outside: &Outside<'_, S, T, NoGate>,
     due: Due,
 ) -> (Q, String)
 where
@@ -96,7 +96,7 @@ where
     let share = share_of(due);
     let (most, one) = lock.split(pass, share);
     let (rest, other) = lock.split(most, share);
-    let (one, other, told) = work_both::<Q, S, T, G, B, Brand, R>(
+    let (one, other, told) = work_both::<Q, S, T, B, Brand, R>(
         rt, alloc, &lock, one, other, outside, due,
     );
     let both = lock.join(one, other);
@@ -105,15 +105,15 @@ where
     (sitting.into_desk(), told)
 }
 
-/// Works all units at a lock round the desk. Where there is no memory for it, none is worked.
-fn sit_told<
+/// Works all units of the desk at a lock round it, and begins the next term where it is due. The desk comes back, with what was
+/// told of the steps. Where there is no memory for a lock, no unit is worked.
+pub(crate) fn sit_told<
     Q: Sole,
     S: Sources<Shard = Q::Shard>,
     T: Targets<Target = Q::Target>,
-    G: Gate,
     B: Since,
     R: Wait + Sync,
->(rt: &R, alloc: Global, desk: Q, outside: &Outside<'_, S, T, G>, due: Due) -> (Q, String)
+>(rt: &R, alloc: Global, desk: Q, outside: &Outside<'_, S, T, NoGate>, due: Due) -> (Q, String)
     requires picked { B.before ≡ Q.seen desk }
     requires alone { Q.start.alone ≡ true }
     requires earlier { Q.start.earlier_turns ≡ 2 ^ 33 }
@@ -125,19 +125,4 @@ fn sit_told<
         Ok((lock, pass)) => sit_at(rt, alloc, lock, pass, outside, due),
         Err(sitting) => (sitting.into_desk(), String::new(alloc)),
     }
-}
-
-/// Works all units of the desk, and begins the next term where it is due. The desk comes back, with what was told of the steps.
-pub(crate) fn sit<
-    Q: Sole,
-    S: Sources<Shard = Q::Shard>,
-    T: Targets<Target = Q::Target>,
-    G: Gate,
-    R: Wait + Sync,
->(rt: &R, alloc: Global, desk: Q, outside: &Outside<'_, S, T, G>, due: Due) -> (Q, String)
-    requires alone { Q.start.alone ≡ true }
-    requires earlier { Q.start.earlier_turns ≡ 2 ^ 33 }
-    requires workable { IsWorkable Q.start (S.told outside.now.sources.now) (T.told outside.now.targets.now) outside.now.part_size }
-{
-    sit_told::<Q, S, T, G, Brand, R>(rt, alloc, desk, outside, due)
 }

@@ -5,9 +5,12 @@ use std::fmt::Debug;
 #[derive(Clone, Copy)]
 pub struct Trouble(pub &'static str);
 
+/// What was wanted where a step is refused.
+pub(crate) const REFUSED: &str = "a step that is not refused";
+
 impl<E: Debug + Drop> From<E> for Trouble {
     fn from(_: E) -> Trouble {
-        Trouble("a step that is not refused")
+        Trouble(REFUSED)
     }
 }
 

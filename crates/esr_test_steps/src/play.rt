@@ -119,7 +119,11 @@ fn count_of(lines: &str, mark: &str) -> u64 {
 
 /// Prints the differences of a scene.
 fn tell_failed(rt: &HostRuntime, title: &str, differences: &str) -> io::Result<()> {
-    let text = format!(in rt.alloc(); "FAILED: {title}\n{differences}")?;
+    let mut text = String::new(rt.alloc());
+    say(&mut text, "FAILED: ");
+    say(&mut text, title);
+    say(&mut text, "\n");
+    say(&mut text, differences);
     complain(rt, text.as_str())
 }
 
@@ -171,7 +175,7 @@ fn play_scenes<R: Wait + Sync>(rt: &HostRuntime, host: &R, text: &str) -> io::Re
 }
 
 /// Plays the scenes of a file, and tells how many failed.
-pub fn play_file<R: Wait + Sync>(rt: &HostRuntime, host: &R, path: &str) -> Result<u64, Trouble> {
+pub fn play_file<R: Wait + Sync>(rt: &HostRuntime, host: &R, path: &str) -> io::Result<u64> {
     let text = fs::read_to_string(rt, path)?;
-    Ok(play_scenes(rt, host, text.as_str())?)
+    play_scenes(rt, host, text.as_str())
 }

@@ -4,7 +4,8 @@ ghost use Rattle.esr_ops.specs.Asked.{asked_of, IsForOp};
 
 use crate::errors::{Done, Trouble};
 use esr_depot::{Depot, Fetch};
-use esr_desk::{Client, CloneAsk};
+use esr_desk::{Attempt, Client, CloneAsk};
+use esr_memdepot::{MemDepot, MemFetch};
 use esr_names::{IndexName, IndexNames, SnapName};
 use esr_ops::{AskedIndex, Command};
 use esr_scenes::{one, say_bytes, source_of};
@@ -77,101 +78,116 @@ fn snapshot_of_two(
     })
 }
 
-fn ask_for<Q: Client>(alloc: Global, desk: &mut Q, command: &Command) -> Done
-    requires { IsForOp (asked_of command.now) }
+/// A snapshot of one index, which the word tells.
+fn snapshot_by_word(alloc: Global, name: &str, index: &str) -> Result<Command, Trouble>
+    ensures { IfOk result (λ c. IsForOp (asked_of c)) }
 {
-    desk.ask(alloc, command)?;
-    Ok(())
-}
-
-fn ask_one<Q: Client>(alloc: Global, desk: &mut Q, name: &str, index: &str) -> Done {
     let index = index_of(alloc, index)?;
-    let command = snapshot_of(alloc, name, index)?;
-    ask_for(alloc, desk, &command)
+    snapshot_of(alloc, name, index)
 }
 
-fn ask_two<Q: Client>(alloc: Global, desk: &mut Q, name: &str, first: &str, second: &str) -> Done {
+/// A snapshot of two indices, which the words tell.
+fn snapshot_by_two(alloc: Global, name: &str, first: &str, second: &str) -> Result<Command, Trouble>
+    ensures { IfOk result (λ c. IsForOp (asked_of c)) }
+{
     let first = index_of(alloc, first)?;
     let second = index_of(alloc, second)?;
-    let command = snapshot_of_two(alloc, name, first, second)?;
-    ask_for(alloc, desk, &command)
+    snapshot_of_two(alloc, name, first, second)
 }
 
-/// Asks for a snapshot of one index or of two, by words such as `NAME INDEX/PLACE INDEX/PLACE`.
-fn ask_snapshot<Q: Client>(alloc: Global, desk: &mut Q, words: &str) -> Done {
+/// A snapshot of one index or of two, by words such as `NAME INDEX/PLACE INDEX/PLACE`.
+fn snapshot_in(alloc: Global, words: &str) -> Result<Command, Trouble>
+    ensures { IfOk result (λ c. IsForOp (asked_of c)) }
+{
     let (name, indices) = words.split_once(' ').unwrap_or((words, ""));
     match indices.split_once(' ') {
-        Some((first, second)) => ask_two(alloc, desk, name, first, second),
-        None => ask_one(alloc, desk, name, indices),
+        Some((first, second)) => snapshot_by_two(alloc, name, first, second),
+        None => snapshot_by_word(alloc, name, indices),
     }
 }
 
-/// Asks for a clone of all indices of a snapshot.
-fn ask_for_clone<Q: Client>(
-    alloc: Global,
-    desk: &mut Q,
-    source: &SnapName,
-    name: &SnapName,
-) -> Done {
-    let all = IndexNames::new(alloc);
-    let ask = CloneAsk {
-        source,
-        name,
-        indices: &all,
-        moment: 0,
-    };
-    desk.clone_snapshot(alloc, &ask)?;
+/// A delete of the snapshot of that name.
+fn delete_of(alloc: Global, name: &str) -> Result<Command, Trouble>
+    ensures { IfOk result (λ c. IsForOp (asked_of c)) }
+{
+    let names = one(alloc, SnapName::new(alloc, name)?)?;
+    Ok(Command::Delete { names })
+}
+
+/// What is asked for by a verb and more words, where it is no clone.
+fn command_of(alloc: Global, verb: &str, words: &str) -> Result<Command, Trouble>
+    ensures { IfOk result (λ c. IsForOp (asked_of c)) }
+{
+    match verb {
+        "snapshot" => snapshot_in(alloc, words),
+        "delete" => delete_of(alloc, words),
+        "cleanup" => Ok(Command::Cleanup),
+        _ => Err(Trouble("a step that there is")),
+    }
+}
+
+/// The two names of words such as `SOURCE NAME`.
+fn names_of(alloc: Global, words: &str) -> Result<(SnapName, SnapName), Trouble> {
+    let (source, name) = words.split_once(' ').unwrap_or((words, ""));
+    let source = SnapName::new(alloc, source)?;
+    let name = SnapName::new(alloc, name)?;
+    Ok((source, name))
+}
+
+/// What comes of a step that is answered by its op.
+fn accepted(answer: Attempt<u64>) -> Done {
+    answer?;
     Ok(())
 }
 
 /// Asks for a clone of all indices of a snapshot, by words such as `SOURCE NAME`.
 fn ask_clone<Q: Client>(alloc: Global, desk: &mut Q, words: &str) -> Done {
-    let (source, name) = words.split_once(' ').unwrap_or((words, ""));
-    let source = SnapName::new(alloc, source)?;
-    let name = SnapName::new(alloc, name)?;
-    ask_for_clone(alloc, desk, &source, &name)
-}
-
-/// Asks for a delete of the snapshot of that name.
-fn ask_delete<Q: Client>(alloc: Global, desk: &mut Q, name: &str) -> Done {
-    let names = one(alloc, SnapName::new(alloc, name)?)?;
-    ask_for(alloc, desk, &Command::Delete { names })
+    let (source, name) = names_of(alloc, words)?;
+    let all = IndexNames::new(alloc);
+    let ask = CloneAsk {
+        source: &source,
+        name: &name,
+        indices: &all,
+        moment: 0,
+    };
+    let answer = desk.clone_snapshot(alloc, &ask);
+    accepted(answer)
 }
 
 /// Asks for an op, by its verb and more words.
 pub(crate) fn ask<Q: Client>(alloc: Global, desk: &mut Q, verb: &str, words: &str) -> Done {
-    match verb {
-        "snapshot" => ask_snapshot(alloc, desk, words),
-        "clone" => ask_clone(alloc, desk, words),
-        "delete" => ask_delete(alloc, desk, words),
-        _ => ask_for(alloc, desk, &Command::Cleanup),
+    if verb == "clone" {
+        return ask_clone(alloc, desk, words);
     }
+    let command = command_of(alloc, verb, words)?;
+    let answer = desk.ask(alloc, &command);
+    drop(command);
+    accepted(answer)
 }
 
-/// Says the front of a blob.
-fn say_front<F: Fetch>(mut fetch: F, said: &mut String) -> Done {
+/// Says the front of a blob, and answers that there is one.
+fn say_front(mut fetch: MemFetch, said: &mut String) -> Result<bool, Trouble> {
     let mut buf = [0; 1024];
     let count = fetch.read(&mut buf)?;
     say_bytes(said, &buf[..count]);
-    Ok(())
-}
-
-/// Says the text of the blob of that name, or the front of a longer one, and answers whether there is one.
-pub(crate) fn say_blob<D: Depot>(
-    alloc: Global,
-    depot: &mut D,
-    name: &str,
-    said: &mut String,
-) -> Result<bool, Trouble> {
-    let Some(fetch) = depot.fetch(alloc, name)? else {
-        return Ok(false);
-    };
-    say_front(fetch, said)?;
     Ok(true)
 }
 
+/// Says the text of the blob of that name, or the front of a longer one, and answers whether there is one.
+pub(crate) fn say_blob(
+    alloc: Global,
+    depot: &mut MemDepot,
+    name: &str,
+    said: &mut String,
+) -> Result<bool, Trouble> {
+    match depot.fetch(alloc, name)? {
+        Some(fetch) => say_front(fetch, said),
+        None => Ok(false),
+    }
+}
+
 /// Says the text of the record.
-pub(crate) fn say_record<D: Depot>(alloc: Global, depot: &mut D, said: &mut String) -> Done {
+pub(crate) fn say_record(alloc: Global, depot: &mut MemDepot, said: &mut String) -> Done {
     let Some(bytes) = depot.read_record(alloc)? else {
         return Err(Trouble("a container that has a record"));
     };

@@ -8,109 +8,108 @@ ghost use Rattle.esr_repo.specs.Begun.{IsBegun};
 ghost use Rattle.esr_drive.specs.Worked.{IsWorkable};
 
 use crate::between::Due;
-use crate::both::sit;
-use crate::errors::{Done, Trouble};
+use crate::both::sit_told;
+use crate::errors::{Done, REFUSED, Trouble};
 use crate::setting::ask;
 use crate::units::{
     PART_SIZE, elect_beside, end_faulty, end_late, take, work_beside, work_next, work_unit,
 };
 use esr_depot::Depot;
+use esr_desk::{Client, Desk, Sole};
 use esr_drive::{Outside, work};
 use esr_opening::{Opening, open_container};
 use esr_repo::{Repo, Told};
 use esr_seq::Text;
 use esr_solo::Solo;
-use esr_source::{MemTarget, NoGate, Sources, Targets};
+use esr_source::{NoGate, Sources, Targets};
 use std::alloc::Global;
 use std::marker::Brand;
 use std::sync::Wait;
 
 /// Takes a unit, works two others, and works it then. The words say what they do.
-fn work_around<D: Depot, K: Told, S: Sources>(
+fn work_around<Q: Desk<Shard = S::Shard>, S: Sources>(
     alloc: Global,
-    desk: &mut Solo<D, K, S::Shard, MemTarget>,
+    desk: &mut Q,
     sources: &S,
     words: &str,
 ) -> Done
-    requires sources { AreSources K.start (S.told sources.now) }
-    requires size { PART_SIZE ≡ K.start.part_size }
-    requires alone { K.start.alone ≡ true }
+    requires sources { AreSources Q.start (S.told sources.now) }
+    requires size { PART_SIZE ≡ Q.start.part_size }
+    requires alone { Q.start.alone ≡ true }
 {
     let (word, others) = words.split_once(' ').unwrap_or((words, ""));
     let (first, second) = others.split_once(' ').unwrap_or((others, ""));
-    let held = take::<D, K, S>(alloc, desk, word)?;
+    let held = take(alloc, desk, word)?;
     work_beside(alloc, desk, &held, sources, first)?;
     work_beside(alloc, desk, &held, sources, second)?;
     work_unit(alloc, desk, &held, sources)
 }
 
 /// Takes a unit, begins the next term, and works it then. The word says what it does.
-fn work_late<D: Depot, K: Told, S: Sources>(
-    alloc: Global,
-    desk: &mut Solo<D, K, S::Shard, MemTarget>,
-    word: &str,
-) -> Done
-    requires alone { K.start.alone ≡ true }
+fn work_late<Q: Desk>(alloc: Global, desk: &mut Q, word: &str) -> Done
+    requires alone { Q.start.alone ≡ true }
 {
-    let held = take::<D, K, S>(alloc, desk, word)?;
-    elect_beside::<D, K, S>(alloc, desk, &held)?;
-    end_late::<D, K, S>(alloc, desk, &held)
+    let held = take(alloc, desk, word)?;
+    elect_beside(alloc, desk, &held)?;
+    end_late(alloc, desk, &held)
 }
 
 /// Takes a unit, works another one, and works it then, when its source fails. The words say what they do.
-fn work_faulty<D: Depot, K: Told, S: Sources>(
+fn work_faulty<Q: Desk<Shard = S::Shard>, S: Sources>(
     alloc: Global,
-    desk: &mut Solo<D, K, S::Shard, MemTarget>,
+    desk: &mut Q,
     sources: &S,
     words: &str,
 ) -> Done
-    requires sources { AreSources K.start (S.told sources.now) }
-    requires size { PART_SIZE ≡ K.start.part_size }
-    requires alone { K.start.alone ≡ true }
+    requires sources { AreSources Q.start (S.told sources.now) }
+    requires size { PART_SIZE ≡ Q.start.part_size }
+    requires alone { Q.start.alone ≡ true }
 {
     let (word, other) = words.split_once(' ').unwrap_or((words, ""));
-    let held = take::<D, K, S>(alloc, desk, word)?;
+    let held = take(alloc, desk, word)?;
     work_beside(alloc, desk, &held, sources, other)?;
     end_faulty(alloc, desk, &held, sources)
 }
 
-/// Makes a step.
-fn step<D: Depot, K: Told, S: Sources, T: Targets<Target = MemTarget>>(
+/// Makes a step: it works, or asks for an op.
+fn step<Q: Client<Shard = S::Shard, Target = T::Target>, S: Sources, T: Targets>(
     alloc: Global,
-    desk: &mut Solo<D, K, S::Shard, MemTarget>,
+    desk: &mut Q,
     sources: &S,
     targets: &T,
     line: &str,
 ) -> Done
-    requires sources { AreSources K.start (S.told sources.now) }
-    requires size { PART_SIZE ≡ K.start.part_size }
-    requires alone { K.start.alone ≡ true }
-    requires workable { IsWorkable K.start (S.told sources.now) (T.told targets.now) PART_SIZE }
+    requires sources { AreSources Q.start (S.told sources.now) }
+    requires size { PART_SIZE ≡ Q.start.part_size }
+    requires alone { Q.start.alone ≡ true }
+    requires workable { IsWorkable Q.start (S.told sources.now) (T.told targets.now) PART_SIZE }
 {
     let (verb, words) = line.split_once(' ').unwrap_or((line, ""));
     match verb {
-        "snapshot" | "clone" | "delete" | "cleanup" => ask(alloc, desk, verb, words),
         "work" => work_next(alloc, desk, sources, words),
         "around" => work_around(alloc, desk, sources, words),
         "faulty" => work_faulty(alloc, desk, sources, words),
-        "late" => work_late::<D, K, S>(alloc, desk, words),
-        "all" => Ok(work(alloc, desk, sources, targets, &NoGate, PART_SIZE)?),
-        _ => Err(Trouble("a step that there is")),
+        "late" => work_late(alloc, desk, words),
+        "all" => match work(alloc, desk, sources, targets, &NoGate, PART_SIZE) {
+            Ok(()) => Ok(()),
+            Err(_) => Err(Trouble(REFUSED)),
+        },
+        _ => ask(alloc, desk, verb, words),
     }
 }
 
 /// Makes the steps of the lines that begin with `>`.
-fn steps<D: Depot, K: Told, S: Sources, T: Targets<Target = MemTarget>>(
+fn steps<Q: Client<Shard = S::Shard, Target = T::Target>, S: Sources, T: Targets>(
     alloc: Global,
-    desk: &mut Solo<D, K, S::Shard, MemTarget>,
+    desk: &mut Q,
     sources: &S,
     targets: &T,
     lines: &str,
 ) -> Done
-    requires sources { AreSources K.start (S.told sources.now) }
-    requires size { PART_SIZE ≡ K.start.part_size }
-    requires alone { K.start.alone ≡ true }
-    requires workable { IsWorkable K.start (S.told sources.now) (T.told targets.now) PART_SIZE }
+    requires sources { AreSources Q.start (S.told sources.now) }
+    requires size { PART_SIZE ≡ Q.start.part_size }
+    requires alone { Q.start.alone ≡ true }
+    requires workable { IsWorkable Q.start (S.told sources.now) (T.told targets.now) PART_SIZE }
 {
     for line in lines.lines() {
         if let Some(told) = line.strip_prefix("> ") {
@@ -143,25 +142,61 @@ fn due_of(lines: &str) -> Option<Due> {
 }
 
 /// Works all units by two desks, where a line lets the next term begin. The desk comes back, with what was told of the steps.
-fn go_on<D: Depot, K: Told, S: Sources, T: Targets, R: Wait + Sync>(
+fn go_on<Q: Sole, S, T, R: Wait + Sync>(
     rt: &R,
     alloc: Global,
-    desk: Solo<D, K, S::Shard, T::Target>,
+    desk: Q,
     outside: &Outside<'_, S, T, NoGate>,
     lines: &str,
-) -> (Solo<D, K, S::Shard, T::Target>, String)
-    requires alone { K.start.alone ≡ true }
-    requires earlier { K.start.earlier_turns ≡ 2 ^ 33 }
-    requires workable { IsWorkable K.start (S.told outside.now.sources.now) (T.told outside.now.targets.now) outside.now.part_size }
+) -> (Q, String)
+where
+    S: Sources<Shard = Q::Shard>,
+    T: Targets<Target = Q::Target>,
+    requires alone { Q.start.alone ≡ true }
+    requires earlier { Q.start.earlier_turns ≡ 2 ^ 33 }
+    requires workable { IsWorkable Q.start (S.told outside.now.sources.now) (T.told outside.now.targets.now) outside.now.part_size }
 {
     match due_of(lines) {
-        Some(due) => sit(rt, alloc, desk, outside, due),
+        Some(due) => sit_told::<Q, S, T, Brand, R>(rt, alloc, desk, outside, due),
         None => (desk, String::new(alloc)),
     }
 }
 
+/// Makes the steps of a scene. The desk comes back, with what was told of the steps that two desks made.
+fn play_steps<Q: Client + Sole, S, T, R: Wait + Sync>(
+    rt: &R,
+    alloc: Global,
+    desk: Q,
+    sources: &S,
+    targets: &T,
+    lines: &str,
+) -> (Q, Result<String, Trouble>)
+where
+    S: Sources<Shard = Q::Shard>,
+    T: Targets<Target = Q::Target>,
+    requires sources { AreSources Q.start (S.told sources.now) }
+    requires size { PART_SIZE ≡ Q.start.part_size }
+    requires alone { Q.start.alone ≡ true }
+    requires earlier { Q.start.earlier_turns ≡ 2 ^ 33 }
+    requires workable { IsWorkable Q.start (S.told sources.now) (T.told targets.now) PART_SIZE }
+{
+    let mut desk = desk;
+    let stepped = steps(alloc, &mut desk, sources, targets, lines);
+    let outside = Outside {
+        sources,
+        targets,
+        gate: &NoGate,
+        part_size: PART_SIZE,
+    };
+    let (desk, told) = go_on(rt, alloc, desk, &outside, lines);
+    match stepped {
+        Ok(()) => (desk, Ok(told)),
+        Err(trouble) => (desk, Err(trouble)),
+    }
+}
+
 /// The container after these steps, and what was told of those that two desks made then.
-fn made<D: Depot, K: Told, S: Sources, T: Targets<Target = MemTarget>, R: Wait + Sync>(
+fn made<D: Depot, K: Told, S: Sources, T: Targets, R: Wait + Sync>(
     rt: &R,
     alloc: Global,
     opening: Opening<D>,
@@ -178,18 +213,11 @@ fn made<D: Depot, K: Told, S: Sources, T: Targets<Target = MemTarget>, R: Wait +
     requires earlier { K.start.earlier_turns ≡ 2 ^ 33 }
 {
     let repo = Repo::<D, K>::from_opening(alloc, opening);
-    let mut desk = Solo::<D, K, S::Shard, T::Target>::new(alloc, repo);
-    let stepped = steps(alloc, &mut desk, sources, targets, lines.as_str());
-    let outside = Outside {
-        sources,
-        targets,
-        gate: &NoGate,
-        part_size: PART_SIZE,
-    };
-    let (desk, told) = go_on(rt, alloc, desk, &outside, lines.as_str());
+    let desk = Solo::<D, K, S::Shard, T::Target>::new(alloc, repo);
+    let (desk, told) = play_steps(rt, alloc, desk, sources, targets, lines.as_str());
     let (repo, _faults, _targets) = desk.into_parts();
     let (depot, _history) = repo.into_parts();
-    stepped?;
+    let told = told?;
     Ok((depot, told))
 }
 
@@ -201,7 +229,7 @@ fn only_now<D: Depot>(depot: &D)
 }
 
 /// The container after these steps, from one that is opened first, and what was told of those that two desks made then.
-pub(crate) fn made_in<D: Depot, S: Sources, T: Targets<Target = MemTarget>, R: Wait + Sync>(
+pub(crate) fn made_in<D: Depot, S: Sources, T: Targets, R: Wait + Sync>(
     rt: &R,
     alloc: Global,
     depot: D,

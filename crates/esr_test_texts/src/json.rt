@@ -43,13 +43,10 @@ fn key_of(name: &str) -> Option<Key> {
     None
 }
 
-fn say_value(line: &mut String, value: &Value) {
-    let _ = write!(line, "{value}");
-}
-
 /// Says the text of the value of a text.
 pub(crate) fn say_again(alloc: Global, line: &mut String, bytes: &[u8]) -> Said {
-    say_value(line, &parse(alloc, bytes)?);
+    let value = parse(alloc, bytes)?;
+    let _ = write!(line, "{value}");
     Ok(())
 }
 
@@ -134,17 +131,12 @@ fn say_part(line: &mut String, question: &str, words: &str, value: &Value) -> Sa
     }
 }
 
-fn say_key(line: &mut String, name: &str) {
-    let key = key_of(name);
-    let _ = write!(line, "{key:?}");
-}
-
 pub(crate) fn answer(alloc: Global, line: &mut String, question: &str, text: &str) -> Said {
     match question {
         "again" => say_again(alloc, line, text.as_bytes()),
         "write" => say_written(alloc, line, text),
         "key" => {
-            say_key(line, text);
+            let _ = write!(line, "{:?}", key_of(text));
             Ok(())
         }
         _ => {

@@ -107,12 +107,7 @@ fn say_bytes_beside(line: &mut String, copy: &Bytes, bytes: &Bytes) {
 }
 
 /// Says bytes that grow by a word, beside the copy before.
-fn say_bytes_with(
-    alloc: Global,
-    line: &mut String,
-    bytes: &mut Bytes,
-    word: &str,
-) -> Result<(), AllocError> {
+fn say_bytes_with(alloc: Global, line: &mut String, bytes: &mut Bytes, word: &str) -> Said {
     let copy = bytes.try_clone(alloc)?;
     extend(bytes, word)?;
     say_bytes_beside(line, &copy, bytes);
@@ -120,12 +115,7 @@ fn say_bytes_with(
 }
 
 /// Says bytes that grow by two words, each with a dot, beside the copy between.
-fn say_bytes_from(
-    alloc: Global,
-    line: &mut String,
-    bytes: &mut Bytes,
-    text: &str,
-) -> Result<(), AllocError> {
+fn say_bytes_from(alloc: Global, line: &mut String, bytes: &mut Bytes, text: &str) -> Said {
     let (front, back) = cut(text);
     extend(bytes, front)?;
     say_bytes_with(alloc, line, bytes, back)
@@ -137,7 +127,7 @@ fn say_bytes_grown(alloc: Global, line: &mut String, text: &str) -> Said {
     if !bytes.is_empty() {
         return say_unknown(line);
     }
-    Ok(say_bytes_from(alloc, line, &mut bytes, text)?)
+    say_bytes_from(alloc, line, &mut bytes, text)
 }
 
 /// Says a text, with its length, and whether it is empty.
@@ -170,12 +160,7 @@ fn say_text_beside(line: &mut String, copy: &Text, text: &Text) {
 }
 
 /// Says a text that grows by a word, beside the copy before.
-fn say_text_with(
-    alloc: Global,
-    line: &mut String,
-    text: &mut Text,
-    word: &str,
-) -> Result<(), AllocError> {
+fn say_text_with(alloc: Global, line: &mut String, text: &mut Text, word: &str) -> Said {
     let copy = text.try_clone(alloc)?;
     text.push_str(word)?;
     say_text_beside(line, &copy, text);
@@ -186,7 +171,7 @@ fn say_text_with(
 fn say_text_grown(alloc: Global, line: &mut String, text: &str) -> Said {
     let (front, back) = cut(text);
     let mut text = Text::from_str(alloc, front)?;
-    Ok(say_text_with(alloc, line, &mut text, back)?)
+    say_text_with(alloc, line, &mut text, back)
 }
 
 fn say_bytes_of(alloc: Global, line: &mut String, text: &str) -> Said {

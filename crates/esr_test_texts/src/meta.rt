@@ -2,8 +2,7 @@
 use crate::names::{say_id, say_index};
 use crate::words::{Said, say, say_unknown, say_written};
 use esr_meta::{
-    GlobalMeta, IndexMeta, SnapInfo, global_read, global_text, index_meta_read, index_meta_text,
-    info_read, info_text,
+    SnapInfo, global_read, global_text, index_meta_read, index_meta_text, info_read, info_text,
 };
 use esr_names::{IndexRefs, indices_copy};
 use std::alloc::Global;
@@ -51,14 +50,10 @@ fn say_global_again(alloc: Global, line: &mut String, bytes: &[u8]) -> Said {
     say_written(line, global_text(alloc, &global))
 }
 
-fn say_global(line: &mut String, global: &GlobalMeta) {
-    let _ = write!(line, "moment {} {} ", global.moment, global.name.as_str());
-    say_id(line, global.uuid);
-}
-
 fn say_global_fields(alloc: Global, line: &mut String, bytes: &[u8]) -> Said {
     let global = global_read(alloc, bytes)?;
-    say_global(line, &global);
+    let _ = write!(line, "moment {} {} ", global.moment, global.name.as_str());
+    say_id(line, global.uuid);
     Ok(())
 }
 
@@ -67,16 +62,12 @@ fn say_index_again(alloc: Global, line: &mut String, bytes: &[u8]) -> Said {
     say_written(line, index_meta_text(alloc, &index))
 }
 
-fn say_index_meta(line: &mut String, index: &IndexMeta) {
+fn say_index_fields(alloc: Global, line: &mut String, bytes: &[u8]) -> Said {
+    let index = index_meta_read(alloc, bytes)?;
     let (name, shards) = (index.name.as_str(), index.shards);
     say_id(line, index.id);
     let _ = write!(line, " {name} shards {shards}, in ");
     say_id(line, index.uuid);
-}
-
-fn say_index_fields(alloc: Global, line: &mut String, bytes: &[u8]) -> Said {
-    let index = index_meta_read(alloc, bytes)?;
-    say_index_meta(line, &index);
     Ok(())
 }
 

@@ -125,17 +125,13 @@ fn say_index_name(alloc: Global, line: &mut String, text: &str) -> Said {
     }
 }
 
-fn say_order(line: &mut String, first: &SnapName, second: &SnapName) {
-    let order = first.cmp(second);
-    let _ = write!(line, "{order:?}");
-}
-
 /// Says the order of two names of snapshots.
 fn say_snapshot_order(alloc: Global, line: &mut String, text: &str) -> Said {
     let (first, second) = cut(text);
     let first = snap_name(alloc, first)?;
     let second = snap_name(alloc, second)?;
-    say_order(line, &first, &second);
+    let order = first.cmp(&second);
+    let _ = write!(line, "{order:?}");
     Ok(())
 }
 

@@ -93,11 +93,6 @@ fn push(line: &mut String, record: &mut ClusterRecord, op: u64) -> Said {
     Ok(())
 }
 
-fn remove(line: &mut String, record: &mut ClusterRecord, op: u64) {
-    record.ops.remove(op);
-    say(line, "done");
-}
-
 /// Changes the numbers of a record, or removes an op, and says the answer.
 fn change_plain(line: &mut String, question: &str, words: &str, record: &mut ClusterRecord) {
     let (first, second) = cut(words);
@@ -105,7 +100,10 @@ fn change_plain(line: &mut String, question: &str, words: &str, record: &mut Clu
         "elect" => say_swap(line, record.elect()),
         "raise" => say_swap(line, record.raise(number(first))),
         "settle" => settle(line, record, number(first), signed(second)),
-        "remove" => remove(line, record, number(first)),
+        "remove" => {
+            record.ops.remove(number(first));
+            say(line, "done");
+        }
         _ => say(line, UNKNOWN),
     }
 }
@@ -154,15 +152,10 @@ fn say_again(alloc: Global, line: &mut String, text: &str) -> Said {
     say_written(line, record_text(alloc, &copy))
 }
 
-fn say_new(alloc: Global, line: &mut String) -> Said {
-    let record = ClusterRecord::new(alloc);
-    say_written(line, record_text(alloc, &record))
-}
-
 pub(crate) fn answer(alloc: Global, line: &mut String, question: &str, text: &str) -> Said {
     match question {
         "again" => say_again(alloc, line, text),
-        "new" => say_new(alloc, line),
+        "new" => say_written(line, record_text(alloc, &ClusterRecord::new(alloc))),
         _ => {
             let (words, text) = cut_last(text);
             let mut record = record_read(alloc, text.as_bytes())?;

@@ -148,9 +148,6 @@ module _ {T E : Type 0} (history_of : T → List E) (of gave : E → Option ℕ)
       ))
       r.slot
 
-  no_wait : (t : ℕ) (stage : Stage) → stage ≡ Waits t → has_value stage ≡ false
-  no_wait t stage is = ap has_value is
-
   standing : (s : St) (r : Rule s) (id : ℕ) (v : V) (stage : Stage) → get_elem? s.views id ≡ some v → v.stage ≡ stage → Stands r.history r.owner r.serving r.ticket id v.seen v.used stage
   standing s r id v stage at is = subst (Stands r.history r.owner r.serving r.ticket id v.seen v.used) is (r.each id v at).stands
 

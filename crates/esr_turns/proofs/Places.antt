@@ -45,10 +45,6 @@ pub times_none : (k : ℕ) (xs : List ℕ) → length xs ≡ 0 → times k xs �
 times_none k [] e = refl
 times_none k (x ∷ xs) e = absurd (omega arith)
 
-pub times_le : (k : ℕ) (xs : List ℕ) → times k xs ≤ length xs
-times_le k [] = omega arith
-times_le k (x ∷ xs) = let rec = times_le k xs in let here : cond (eqb x k) 1 0 ≤ 1 = elim (eqb x k) as (λ b. cond b 1 0 ≤ 1) [ true ↦ omega arith | false ↦ omega arith ] in omega arith
-
 pub times_inserted : (k x : ℕ) (xs : List ℕ) → times k (inserted x xs) ≡ times k (x ∷ xs)
 times_inserted k x [] = refl
 times_inserted k x (y ∷ ys) =

@@ -70,18 +70,16 @@ module _ {E : Type 0} where
 
   -- who has the value has the ticket that is served
   pub holder : (history : List E) (owner : ℕ → ℕ) (serving ticket by : ℕ) (seen : List E) (used : ℕ) (stage : Stage) → Stands history owner serving ticket by seen used stage → has_value stage ≡ true → owner serving ≡ by
-  holder history owner serving ticket by seen used Idle h has = absurd (true≢false (sym has))
-  holder history owner serving ticket by seen used (Waits t) h has = absurd (true≢false (sym has))
   holder history owner serving ticket by seen used (Lifted t) h has = ap owner (sym h.0) ∙ h.2
   holder history owner serving ticket by seen used (Counted t) h has = ap owner (sym h.0) ∙ h.2
+  holder history owner serving ticket by seen used stage h has = absurd (true≢false (sym has))
 
   -- who has the value has drawn a ticket
   pub has_used : (history : List E) (owner : ℕ → ℕ) (serving ticket by : ℕ) (seen : List E) (used places : ℕ) (stage : Stage) → Stands history owner serving ticket by seen used stage → places + pending stage ≤ used
       → has_value stage ≡ true → 0 < used
-  has_used history owner serving ticket by seen used places Idle h le has = absurd (true≢false (sym has))
-  has_used history owner serving ticket by seen used places (Waits t) h le has = absurd (true≢false (sym has))
   has_used history owner serving ticket by seen used places (Lifted t) h le has = omega arith
   has_used history owner serving ticket by seen used places (Counted t) h le has = h.4
+  has_used history owner serving ticket by seen used places stage h le has = absurd (true≢false (sym has))
 
 module _ {T E : Type 0} (of gave : E → Option ℕ) where
   pub fits_still : (history : List E) (owner : ℕ → ℕ) (serving ticket : ℕ) (history' : List E) (owner' : ℕ → ℕ) (serving' ticket' by : ℕ) (v : View T E)

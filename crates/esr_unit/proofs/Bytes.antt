@@ -41,19 +41,15 @@ told_left s left told bytes is tells = by s.tells is (subst (λ (o : Option Byte
 -- it is noted, whoever fetched it
 pub fetched_own : {F : Type 0} (hand : Hand) (s : Start) (left : F → Option Bytes) (name : BlobName) (f : F) (bytes : Bytes) (own : Own) → left f ≡ told_bytes s bytes
     → own_fetched hand left name (Some f) own ≡ own_fetched hand (told_bytes s) name (Some bytes) own
-fetched_own hands.Unit s left name f bytes own is = ap (λ (o : Option Bytes). record own { ticket = fetching name o own.ticket }) is
-fetched_own hands.Delete s left name f bytes own is = ap (λ (o : Option Bytes). record own { ticket = fetching name o own.ticket }) is
 fetched_own hands.Restore s left name f bytes own is = ap (λ (o : Option Bytes). record own { reader = with_read name o own.reader }) is
 fetched_own hands.Check s left name f bytes own is = ap (λ (o : Option Bytes). record own { caller = caller_told own.caller name o }) is
 fetched_own hands.Verify s left name f bytes own is = ap (λ (o : Option Bytes). record own { caller = caller_told own.caller name o }) is
+fetched_own hand s left name f bytes own is = ap (λ (o : Option Bytes). record own { ticket = fetching name o own.ticket }) is
 
 -- a blob that isn't there
 pub absent_own : {F : Type 0} (hand : Hand) (s : Start) (left : F → Option Bytes) (name : BlobName) (own : Own) → own_fetched hand left name None own ≡ own_fetched hand (told_bytes s) name None own
 absent_own hands.Unit s left name own = refl
-absent_own hands.Delete s left name own = refl
-absent_own hands.Restore s left name own = refl
-absent_own hands.Check s left name own = refl
-absent_own hands.Verify s left name own = refl
+absent_own hand s left name own = refl
 
 -- ---- a stage
 

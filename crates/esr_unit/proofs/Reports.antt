@@ -42,10 +42,7 @@ commit_refused s old new who name at same e h =
 
 none_failed : (hand : Hand) (why : Why) (refusal : Refusal) → MayRefuse (fail_step hand why) refusal → ⊥
 none_failed hands.Unit why refusal may = elim may [ ]
-none_failed hands.Delete why refusal may = elim may [ ]
-none_failed hands.Restore why refusal may = elim may [ ]
-none_failed hands.Check why refusal may = elim may [ ]
-none_failed hands.Verify why refusal may = elim may [ ]
+none_failed hand why refusal may = elim may [ ]
 
 so_blocked : (hand : Hand) (w : World) (who : ℕ) (why : Why) (refusal : Refusal) → RefusedSo w who (fail_step hand why) refusal → Blocks w who (fail_step hand why) refusal
 so_blocked hand w who why refusal (inl blocks) = blocks

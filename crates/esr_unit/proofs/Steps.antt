@@ -22,35 +22,27 @@ abbrev pub IsMaker : Start → ℕ → Type 0
 IsMaker s who = (1 ≤ who) ⊎ ((s.alone ≡ true) × (who ≡ 0))
 
 pub fetch_maker : (hand : Hand) (s : Start) (log : List Moment) (calls : List Call) (who : ℕ) (name : BlobName) → IsMine hand calls who → MayFetch hand s log who name → IsMaker s who
-fetch_maker hands.Unit s log calls who name mine may = inl mine.some
-fetch_maker hands.Delete s log calls who name mine may = inl mine.some
-fetch_maker hands.Restore s log calls who name mine may = inl mine.some
 fetch_maker hands.Check s log calls who name mine may = inr (may.0.alone, mine)
 fetch_maker hands.Verify s log calls who name mine may = inr (may.0.alone, mine)
+fetch_maker hand s log calls who name mine may = inl mine.some
 
 -- it stays the maker's own
 pub mine_on : {X : Type 0} (hand : Hand) (log : List Moment) (step : Step) (ok : X → Reply) (result : Result X StepRefusal) (old new : List Call) (who : ℕ) → new ≡ called_by hand log step ok result old → IsMine hand old who
     → IsMine hand new who
-mine_on hands.Unit log step ok result old new who is mine = subst (λ (calls : List Call). HasTaken calls who) (sym is) mine
-mine_on hands.Delete log step ok result old new who is mine = subst (λ (calls : List Call). HasTaken calls who) (sym is) mine
-mine_on hands.Restore log step ok result old new who is mine = subst (λ (calls : List Call). HasTaken calls who) (sym is) mine
 mine_on hands.Check log step ok result old new who is mine = mine
 mine_on hands.Verify log step ok result old new who is mine = mine
+mine_on hand log step ok result old new who is mine = subst (λ (calls : List Call). HasTaken calls who) (sym is) mine
 
 -- a ticket's step leaves the calls
 pub leaves_on : {X : Type 0} (hand : Hand) (log : List Moment) (step : Step) (ok : X → Reply) (result : Result X StepRefusal) (old new : List Call) → new ≡ called_by hand log step ok result old → LeavesCalls hand old new
-leaves_on hands.Unit log step ok result old new is = is
-leaves_on hands.Delete log step ok result old new is = is
-leaves_on hands.Restore log step ok result old new is = is
 leaves_on hands.Check log step ok result old new is = tt
 leaves_on hands.Verify log step ok result old new is = tt
+leaves_on hand log step ok result old new is = is
 
 pub leaves_none : (hand : Hand) (calls : List Call) → LeavesCalls hand calls calls
-leaves_none hands.Unit calls = refl
-leaves_none hands.Delete calls = refl
-leaves_none hands.Restore calls = refl
 leaves_none hands.Check calls = tt
 leaves_none hands.Verify calls = tt
+leaves_none hand calls = refl
 
 -- ---- what it has made
 

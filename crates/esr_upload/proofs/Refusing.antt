@@ -142,16 +142,12 @@ of_on old new a worked of = record {
 shard_shown : {S F H T : Type 0} (e : Evidence S F H T) (s : Start) (log : List Moment) (who : ℕ) (shard : H) (ending : Ending S F H T) → IsOf (ticket_of s log who) (e.shard shard).address
     → (s.steady (e.shard shard).address.place (e.shard shard).address.index (e.shard shard).address.number ≡ true → e.shard_faults shard ≡ 0)
     → EndingShown hands.Unit e (0 < e.shard_faults shard) s log who ending → EndingShown hands.Unit e ⊥ s log who (ended_by shard ending)
-shard_shown e s log who shard (endings.Failed why b) of quiet h = h
 shard_shown e s log who shard endings.Own of quiet h = (faulty s (e.shard shard).address (e.shard_faults shard) h quiet, of)
-shard_shown e s log who shard endings.Stale of quiet h = h
-shard_shown e s log who shard (endings.Stopped refusal) of quiet h = h
+shard_shown e s log who shard ending of quiet h = h
 
 with_shard_change : {S F H T : Type 0} (files : Option (List (Bytes × Bytes))) (shard : H) (ending : Ending S F H T) → IsUntoldEnding files ending → IsUntoldEnding files (ended_by shard ending)
 with_shard_change files shard (endings.Failed why b) h = h
-with_shard_change files shard endings.Own h = tt
-with_shard_change files shard endings.Stale h = tt
-with_shard_change files shard (endings.Stopped refusal) h = tt
+with_shard_change files shard ending h = tt
 
 -- the trouble of a shard's unit, as it ends
 module _ {S F H T : Type 0} (e : Evidence S F H T) (files : Option (List (Bytes × Bytes))) (s : Start) (old mid : List Moment) (who : ℕ) (shard : H) (trouble : Trouble S F) (middle ending : Ending S F H T)

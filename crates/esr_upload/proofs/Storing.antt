@@ -1,5 +1,5 @@
 -- Files that are stored, one more at a time.
-use Rattle.std.proofs.Common.{◌≡◌, ℕ, zero, suc, ◌+◌, ◌<◌, ◌≤◌, ◌^◌, List, [], ◌∷◌, ◌++◌, length, take, map, slice_get, slice_index_or, Option, Some, None, IsSomeAnd, refl, sym, ◌∙◌, ap, subst, arith}
+use Rattle.std.proofs.Common.{◌≡◌, ℕ, zero, suc, ◌+◌, ◌<◌, ◌≤◌, ◌^◌, List, [], ◌∷◌, ◌++◌, length, take, map, slice_get, slice_index_or, Option, Some, None, refl, sym, ◌∙◌, ap, subst, arith}
 use Rattle.std.specs.List.{AllByRecursion}
 use Rattle.std.proofs.lemmas.List.{map-append, take_all}
 use Rattle.esr_hash.specs.declared.print.Print.{Print}
@@ -14,7 +14,7 @@ use Rattle.esr_reuse.specs.declared.reuse.Planned.{Planned}
 use Rattle.esr_reuse.specs.Plans.{file_planned}
 use Rattle.esr_desk.specs.Start.{Start}
 use Rattle.esr_desk.specs.Taken.{after_writes}
-use Rattle.esr_upload.specs.Surveyed.{printed, TellsAll, IsShort, ListsAsMany}
+use Rattle.esr_upload.specs.Surveyed.{printed, TellsAll, IsShort}
 use Rattle.esr_upload.specs.Entries.{new_count, entry_at, entries_at, blobs_at, all_blobs, ReadOnce, Reads, StoredOne, StoredAll}
 use Rattle.esr_upload.proofs.Planning.{take_next, entries_more, blobs_more}
 use Rattle.esr_upload.proofs.Modelled.{as_many}
@@ -44,10 +44,6 @@ short_at [] i f all there = cc
 short_at (g ∷ fs) zero f all there = let same : g ≡ f = cc in subst IsShort same all.0
 short_at (g ∷ fs) (suc i) f all there = short_at fs i f all.1 there
 
-listed_at : (listed : Option (List ListedFile)) (fs : List (Bytes × Bytes)) (i : ℕ) → ListsAsMany listed fs → i < length fs → IsSomeAnd listed (λ ls. i < length ls)
-listed_at None fs i many lt = many
-listed_at (Some ls) fs i many lt = omega arith
-
 tells_at : (told : Option (List (Bytes × Bytes))) (fs : List (Bytes × Bytes)) (i : ℕ) (f : Bytes × Bytes) → TellsAll told fs → slice_get fs i ≡ Some f → Tells (bytes_at told i) f.1
 tells_at None fs i f tells there = tt
 tells_at (Some told) fs i f tells there =
@@ -63,11 +59,6 @@ module _ (told : Option (List (Bytes × Bytes))) (listed : Option (List ListedFi
       let short : IsShort at_next.file = short_at reads.files i at_next.file reads.short at_next.there in
       let len : p.print.len ≡ length at_next.file.1 = ap (λ (x : Bytes × Print). x.1.len) at_next.named in
       omega (arith, short, len)
-
-  pub next_listed : IsSomeAnd listed (λ ls. i < length ls)
-  next_listed =
-      let many : length ps ≡ length reads.files = as_many ps reads.files reads.named in
-      listed_at listed reads.files i reads.many (omega (arith, many, lt))
 
   pub next_read : ReadOnce (bytes_at told i) p.print
   next_read = record {

@@ -1,5 +1,5 @@
 -- A file that was read to its end.
-use Rattle.std.proofs.Common.{◌≡◌, ◌≢◌, ◌⊎◌, inl, inr, ℕ, zero, suc, ◌+◌, ◌<◌, Bool, true, false, not, ◌&&◌, eqb, bytes_eq, List, [], ◌∷◌, ◌++◌, length, Option, Some, None, option_map, IfSome, IsSomeAnd, slice_get, refl, sym, ap, ◌∙◌, subst, arith, append-nil, length-append}
+use Rattle.std.proofs.Common.{◌≡◌, ◌≢◌, ◌⊎◌, inl, inr, ℕ, zero, suc, ◌+◌, ◌<◌, Bool, true, false, not, ◌&&◌, eqb, bytes_eq, List, [], ◌∷◌, ◌++◌, length, Option, Some, None, option_map, IfSome, slice_get, refl, sym, ap, ◌∙◌, subst, arith, append-nil, length-append}
 use Rattle.std.specs.Io.KnownBytes.{Consumes, IsAtEnd}
 use Rattle.std.proofs.lemmas.Bool.{eq-eqb, eqb-true, and_from, and_parts}
 use Rattle.std.proofs.lemmas.List.{nil_from_length}
@@ -18,9 +18,6 @@ use Rattle.esr_core.specs.Entry.{Moment}
 use Rattle.esr_desk.specs.Start.{Start}
 use Rattle.esr_desk.specs.Told.{TellsAll}
 use Rattle.esr_upload.specs.Stored.{HasPrint, Stored}
-use Rattle.esr_source.specs.declared.files.ListedFile.{ListedFile}
-use Rattle.esr_reuse.specs.declared.reuse.ReadFile.{ReadFile}
-use Rattle.esr_upload.specs.Surveyed.{Surveyed}
 use Rattle.esr_upload.specs.Pieces.{PutParts, PartsTold}
 
 -- all that is told was read
@@ -102,13 +99,3 @@ pub prints_differ : (a b : Print) (differ : Bool) → differ ≡ not (same a b) 
 prints_differ a b differ is other = λ equal.
     not_true (same a b) (sym is ∙ other)
     (and_from (eqb a.len b.len) (bytes_eq a.sha256 b.sha256) (eq-eqb a.len b.len (ap (λ (p : Print). p.len) equal)) ((bytes_eq-Decides a.sha256 b.sha256).1 (ap (λ (p : Print). p.sha256) equal)))
-
--- a listed file is one of the told ones, once the shard was surveyed
-pub told_place : (told : Option (List (Bytes × Bytes))) (listed : Option (List ListedFile)) (reads : List ReadFile) (file : ℕ) → Surveyed told listed reads → IsSomeAnd listed (λ fs. file < length fs) → IfSome told (λ fs. file < length fs)
-told_place None listed reads file surveyed within = tt
-told_place (Some fs) None reads file surveyed within = absurd within
-told_place (Some fs) (Some l) reads file surveyed within =
-    let all : length surveyed.files ≡ length fs = ap (λ (x : List (Bytes × Bytes)). length x) surveyed.tells in
-    let many : length l ≡ length surveyed.files = surveyed.many in
-    let here : file < length l = within in
-    omega (arith, all, many, here)

@@ -68,9 +68,7 @@ fetch_shown e n files s old new who index number work step trouble law is no_swa
 -- it may fail
 pub may_end : {S F H T : Type 0} (s : Start) (log : List Moment) (who : ℕ) (ending : Ending S F H T) → CanFail (ticket_of s log who) → MayEnd hands.Unit s log who ending
 may_end s log who (endings.Failed why b) can = can
-may_end s log who endings.Own can = tt
-may_end s log who endings.Stale can = tt
-may_end s log who (endings.Stopped refusal) can = tt
+may_end s log who ending can = tt
 
 -- the term of a shard's ticket is never over
 pub not_stale : {S F H T : Type 0} (e : Evidence S F H T) (own : Type 0) (s : Start) (log : List Moment) (who index number : ℕ) (ending : Ending S F H T) → (ticket_of s log who).work ≡ Shard index number

@@ -29,10 +29,8 @@ Shown {S} {F} {H} {T} e faults files s log who trouble = unit.Shown {S = S} {F =
 
 ending_own : {S F H T : Type 0} (e : Evidence S F H T) (own more : Type 0) (s : Start) (log : List Moment) (who : ℕ) (ending : Ending S F H T) → (own → more) → EndingShown hands.Unit e own s log who ending
     → EndingShown hands.Unit e more s log who ending
-ending_own e own more s log who (endings.Failed why b) wider h = h
 ending_own e own more s log who endings.Own wider h = wider h
-ending_own e own more s log who endings.Stale wider h = h
-ending_own e own more s log who (endings.Stopped refusal) wider h = h
+ending_own e own more s log who ending wider h = h
 
 pub some_none : (files : List (Bytes × Bytes)) → Some files ≡ None → ⊥
 some_none files e = cc

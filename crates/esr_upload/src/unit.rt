@@ -32,6 +32,7 @@ use esr_depot::CallError;
 use esr_desk::{Desk, Hand, StepRefusal, Unit, UnitRefusal, Why};
 use esr_names::{BlobName, Id, ShardId};
 use esr_ops::Work;
+use esr_parts::buffer;
 use esr_results::ShardResult;
 use esr_reuse::{Planned, Plans, plan};
 use esr_shardidx::ShardIndex;
@@ -68,6 +69,8 @@ pub fn base_of<Q: Desk>(
         None => return Ok(ShardIndex::new(alloc)),
     };
     let index = read_base(alloc, desk, ticket, at, generation)?;
+    // Where it gives its files it is known to be whole.
+    let _ = index.files();
     match index.list(uuid) {
         Some(_) => {
             let name = BlobName::ShardIndex(at, generation);
@@ -169,7 +172,7 @@ fn work<Q: Desk, S: Shard, G: Gate>(
     ensures calls { Q.calls desk.new ≡ Q.calls desk.old }
 {
     esr_core::refusals_are_of_their_steps();
-    let mut buf = [0; 65536];
+    let mut buf = buffer();
     let index = base_of(alloc, desk, job.ticket, job.at, job.uuid, job.base)?;
     let plans = plan_files::<Q, S>(alloc, shard, &index, &mut buf)?;
     let first = desk.draw(alloc, job.ticket, count_new(plans.as_slice()) + 1)?;

@@ -1,5 +1,5 @@
 -- What a verification adds to a history.
-use Rattle.std.proofs.Common.{◌≡◌, true, List, [], ◌∷◌, ◌++◌, append_assoc, Result, Ok, Err, refl, sym, ap, ◌∙◌, subst}
+use Rattle.std.proofs.Common.{◌≡◌, true, List, [], ◌∷◌, ◌++◌, append_assoc, Result, Err, refl, sym, ap, ◌∙◌, subst}
 use Rattle.esr_core.specs.Entry.{Reply, Refused, ReadStep, DrawTest, Moment}
 use Rattle.esr_desk.specs.declared.unit.UnitRefusal.{UnitRefusal}
 use Rattle.esr_desk.specs.declared.unit.UnitRefusal.TheVariants as units
@@ -53,23 +53,20 @@ begun_one old new h = Begun h.draw h.rest h.is h.drawer h.drew h.all
 
 -- a verification has no term
 given_present : {S F H T : Type 0} (e : Evidence S F H T) (s : Start) (old new : List Moment) (ending : Ending S F H T) (result : UnitRefusal) → GivenUp hands.Verify e s old new 0 ending result → result ≡ units.Stale → ⊥
-given_present e s old new (endings.Failed why b) units.Stale h is = h
-given_present e s old new (endings.Stopped refusal) units.Stale h is = h
 given_present e s old new endings.Own result h is = h
 given_present e s old new endings.Stale result h is = h
 given_present e s old new ending (units.Failed why) h is = cc
 given_present e s old new ending (units.Stopped refusal) h is = cc
+given_present e s old new ending result h is = h
 
 err_is : {X : Type 0} (one two : UnitRefusal) → ◌≡◌ {A = Result X UnitRefusal} (Err one) (Err two) → one ≡ two
 err_is one two e = cc
 
 asks_begun : {X : Type 0} (old new : List Moment) (result : Result X UnitRefusal) → (result ≡ Err units.Stale → ⊥) → HasBegun old new → AsksOne old new result
-asks_begun old new (Ok x) present h = h
-asks_begun old new (Err (units.Failed why)) present h = h
-asks_begun old new (Err (units.Stopped (steps.Refused refusal))) present h = h
 asks_begun old new (Err (units.Stopped steps.Memory)) present h = begun_one old new h
 asks_begun old new (Err (units.Stopped steps.TurnsSpent)) present h = begun_one old new h
 asks_begun old new (Err units.Stale) present h = absurd (present refl)
+asks_begun old new result present h = h
 
 -- the draw was refused
 asks_stop : (X : Type 0) {S F H T : Type 0} (e : Evidence S F H T) (s : Start) (old mid new : List Moment) (refusal : StepRefusal) (result : UnitRefusal) → mid ≡ old → (new ≡ old → AsksOne {X = X} old new (Err (units.Stopped refusal)))

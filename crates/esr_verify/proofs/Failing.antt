@@ -42,9 +42,7 @@ use Rattle.esr_verify.proofs.Refusing.{IsAbort, IsDrawRefusal, HowRefused, live_
 -- that the verification is open
 pub may_end : {S F H T : Type 0} (s : Start) (log : List Moment) (ending : Ending S F H T) → s.alone ≡ true → IsOpen (caller_of s log) → MayEnd hands.Verify s log 0 ending
 may_end s log (endings.Failed why b) alone is_open = (record { alone = alone; client = refl }, is_open)
-may_end s log endings.Own alone is_open = tt
-may_end s log endings.Stale alone is_open = tt
-may_end s log (endings.Stopped refusal) alone is_open = tt
+may_end s log ending alone is_open = tt
 
 -- a verification has no term
 pub never_stale : {S F H T : Type 0} (e : Evidence S F H T) (s : Start) (log : List Moment) (ending : Ending S F H T) → EndingShown hands.Verify e ⊥ s log 0 ending → ending ≡ endings.Stale → ⊥
@@ -122,9 +120,8 @@ module _ {S F H T : Type 0} (e : Evidence S F H T) (law : RefusesSo) (s : Start)
 
   draw_may : (refusal : StepRefusal) → IsRefusedBy s old mid 0 (ReadStep DrawTest) refusal → caller_of s mid ≡ drawn_by (Err refusal) (caller_of s old)
       → MayEnd {S = S} {F = F} {H = H} {T = T} hands.Verify s mid 0 (ending_by {S = S} {F = F} {H = H} {T = T} (troubles.Step refusal))
-  draw_may steps.Memory h own = tt
-  draw_may steps.TurnsSpent h own = tt
   draw_may (steps.Refused x) h own = may_entry x (draw_refused law s old mid x h.0 h.1) own
+  draw_may refusal h own = tt
 
   pub draw_may_end : (refusal : StepRefusal) (ending : Ending S F H T) → ending ≡ ending_by (troubles.Step refusal) → IsRefusedBy s old mid 0 (ReadStep DrawTest) refusal → caller_of s mid ≡ drawn_by (Err refusal) (caller_of s old)
       → MayEnd hands.Verify s mid 0 ending
@@ -140,8 +137,7 @@ module _ {S F H T : Type 0} (e : Evidence S F H T) (law : RefusesSo) (deposes : 
 
   stop_ends : (refusal : StepRefusal) (result : UnitRefusal) → StopsVerify s old mid refusal → GivenUp hands.Verify e s mid new 0 (endings.Stopped refusal) result → IsVerifyRefused e s old new result
   stop_ends refusal (units.Stopped told) stops h = as_stopped e law s old mid new alone refusal told stops h
-  stop_ends refusal (units.Failed why) stops h = absurd h
-  stop_ends refusal units.Stale stops h = absurd h
+  stop_ends refusal result stops h = absurd h
 
   entry_ends : (x : EntryRefusal) (result : UnitRefusal) → IsDrawRefusal (refusal_of x) → Stepped s old mid 0 (ReadStep DrawTest) (Refused (refusal_of x)) → caller_of s mid ≡ drawn_by (Err (steps.Refused x)) (caller_of s old)
       → GivenUp hands.Verify e s mid new 0 (ending_by {S = S} {F = F} {H = H} {T = T} (troubles.Step (steps.Refused x))) result

@@ -30,9 +30,8 @@ use Rattle.esr_verify.proofs.Living.{alive_on, stepped_alive}
 
 are_both : (ms ns : List Moment) (one two : List Answered) → Are ms one → Are ns two → Are (ms ++ ns) (one ++ two)
 are_both [] ns [] two a b = b
-are_both [] ns (x ∷ one) two a b = absurd a
-are_both (m ∷ ms) ns [] two a b = absurd a
 are_both (m ∷ ms) ns (x ∷ one) two a b = (a.0, are_both ms ns one two a.1 b)
+are_both ms ns one two a b = absurd a
 
 pub went_none : (log : List Moment) → Went log log []
 went_none log = record { moments = []; is = sym (append-nil log); are = tt }
@@ -118,10 +117,7 @@ same_further s old new same = subst (λ (log : List Moment). GrewFurther s old l
 pub report_further : {S F H T : Type 0} (s : Start) (old new : List Moment) (ending : Ending S F H T) (result : UnitRefusal) → s.alone ≡ true → IsReported hands.Verify s old new 0 ending result → GrewFurther s old new
 report_further s old new (endings.Failed why b) (units.Failed told) alone h = stepped_further s old new (ReadFails (why_of why)) HasEnded alone tt h
 report_further s old new (endings.Failed why b) (units.Stopped refusal) alone h = refusing_further s old new (ReadFails (why_of why)) (told_refusal refusal) alone tt h
-report_further s old new (endings.Failed why b) units.Stale alone h = same_further s old new h
-report_further s old new endings.Own result alone h = same_further s old new h
-report_further s old new endings.Stale result alone h = same_further s old new h
-report_further s old new (endings.Stopped refusal) result alone h = same_further s old new h
+report_further s old new ending result alone h = same_further s old new h
 
 -- ---- no verification ended well
 
@@ -174,10 +170,7 @@ same_unverified old new same = subst (λ (log : List Moment). NoneVerified old l
 pub report_unverified : {S F H T : Type 0} (s : Start) (old new : List Moment) (ending : Ending S F H T) (result : UnitRefusal) → s.alone ≡ true → IsReported hands.Verify s old new 0 ending result → NoneVerified old new
 report_unverified s old new (endings.Failed why b) (units.Failed told) alone h = stepped_unverified s old new (ReadFails (why_of why)) HasEnded alone (λ at ended. cc) h
 report_unverified s old new (endings.Failed why b) (units.Stopped refusal) alone h = refusing_unverified s old new (ReadFails (why_of why)) (told_refusal refusal) alone h
-report_unverified s old new (endings.Failed why b) units.Stale alone h = same_unverified old new h
-report_unverified s old new endings.Own result alone h = same_unverified old new h
-report_unverified s old new endings.Stale result alone h = same_unverified old new h
-report_unverified s old new (endings.Stopped refusal) result alone h = same_unverified old new h
+report_unverified s old new ending result alone h = same_unverified old new h
 
 -- ---- the id that was drawn
 

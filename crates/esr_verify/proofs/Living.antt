@@ -7,7 +7,7 @@ use Rattle.esr_core.specs.Entry.{Read, Step, ReadStep, Reply, Refusal, Refused, 
 use Rattle.esr_core.specs.After.{after, swaps_record}
 use Rattle.esr_core.specs.Allowed.{Allowed, Blocks, ByFailedSwap, ByDelete, IsBlocked}
 use Rattle.esr_core.specs.History.{world_from, IsLegal}
-use Rattle.esr_core.specs.Refusing.{MayRefuse, ReadFault, SwapFailed}
+use Rattle.esr_core.specs.Refusing.{MayRefuse, SwapFailed, ByRule}
 use Rattle.esr_core.specs.Laws.Tests.{clash}
 use Rattle.esr_desk.specs.Start.{Start, formats_of, world_of, Legal}
 use Rattle.esr_desk.specs.Outcome.{Stepped}
@@ -17,6 +17,7 @@ use Rattle.esr_unit.specs.Refusals.{RefusesSo}
 use Rattle.esr_verify.specs.Law.{DeposesSo}
 use Rattle.esr_verify.specs.Began.{AllFurther}
 use Rattle.esr_verify.specs.Went.{IsAlive, GrewFurther}
+use Rattle.esr_core.specs.Laws.Rules.{never_rule}
 
 -- ---- histories
 
@@ -75,9 +76,8 @@ block_dead : (w : World) (who : ℕ) (step : Step) (refusal : Refusal) → Block
 block_dead w who step refusal (ByFailedSwap at deposed) place is = deposed
 block_dead w who step refusal (ByDelete op deposed aborted) place is = absurd cc
 
-no_deposal : (step : Step) (refusal : Refusal) → MayRefuse step refusal → (place : ℕ) → refusal ≡ DeposedAt place → ⊥
-no_deposal step refusal (ReadFault name) place is = cc
-no_deposal step refusal may place is = cc
+no_deposal : (step : Step) (place : ℕ) → MayRefuse step (DeposedAt place) → ⊥
+no_deposal step place (ByRule command refusal rule) = never_rule command (DeposedAt place) refl rule
 
 pub last_alive : RefusesSo → (s : Start) (log : List Moment) (who : ℕ) (step : Step) (place : ℕ) → Legal s log → IsAlive s log → IsLast log who step (Refused (DeposedAt place)) → ⊥
 last_alive law s log who step place legal alive last =
@@ -87,5 +87,5 @@ last_alive law s log who step place legal alive last =
     let same : (world_of s log).deposed ≡ w.deposed = ap (λ (l : List Moment). (world_of s l).deposed) last.is ∙ ap (λ (x : World). x.deposed) (world_more f s.world last.front (m ∷ [])) in
     ⊎_elim
     (λ (blocks : Blocks w who step (DeposedAt place)). clash w.deposed (block_dead w who step (DeposedAt place) blocks place refl) (sym same ∙ alive))
-    (λ (may : MayRefuse step (DeposedAt place)). no_deposal step (DeposedAt place) may place refl)
+    (λ (may : MayRefuse step (DeposedAt place)). no_deposal step place may)
     (law f s.part_size w m (DeposedAt place) (legal_last f s.part_size s.world last.front m (subst (Legal s) last.is legal)) refl)

@@ -24,9 +24,6 @@ map_push : (names : List CodeName) (name : CodeName) → map name_of (names ++ n
 map_push [] name = refl
 map_push (x ∷ names) name = ap (λ (l : List BlobName). name_of x ∷ l) (map_push names name)
 
-pub first_name : (id : Id) (names : List CodeName) → names ≡ [] ++ code.TestMaster id ∷ [] → map name_of names ≡ test_names id.number 0
-first_name id names is = ap (λ (l : List CodeName). map name_of l) is
-
 pub next_name : (id : Id) (n : ℕ) (old new : List CodeName) → map name_of old ≡ test_names id.number n → new ≡ old ++ code.TestNode id n ∷ [] → map name_of new ≡ test_names id.number (n + 1)
 next_name id n old new was is =
     let next : suc n ≡ n + 1 = omega arith in
@@ -51,31 +48,15 @@ node_at id first (suc n) name (inr later) =
 
 master_named : (id : ℕ) (name : CodeName) → name_of name ≡ TestMaster id → IsName name
 unfolding IsName
-master_named id (code.Root k) is = absurd cc
-master_named id code.Latest is = absurd cc
-master_named id (code.Snap u) is = absurd cc
-master_named id (code.Meta u) is = absurd cc
-master_named id (code.IndexMeta i u) is = absurd cc
 master_named id (code.ShardSnap s u) is = absurd cc
-master_named id (code.ShardIndex s g) is = absurd cc
-master_named id (code.Whole s x) is = absurd cc
-master_named id (code.Part s x k) is = absurd cc
 master_named id (code.TestMaster v) is = tt
-master_named id (code.TestNode v w) is = absurd cc
+master_named id name is = absurd cc
 
 node_named : (id k : ℕ) (name : CodeName) → k < 64 → name_of name ≡ TestNode id k → IsName name
 unfolding IsName
-node_named id n (code.Root k) less is = absurd cc
-node_named id n code.Latest less is = absurd cc
-node_named id n (code.Snap u) less is = absurd cc
-node_named id n (code.Meta u) less is = absurd cc
-node_named id n (code.IndexMeta i u) less is = absurd cc
 node_named id n (code.ShardSnap s u) less is = absurd cc
-node_named id n (code.ShardIndex s g) less is = absurd cc
-node_named id n (code.Whole s x) less is = absurd cc
-node_named id n (code.Part s x k) less is = absurd cc
-node_named id n (code.TestMaster v) less is = absurd cc
 node_named id n (code.TestNode v w) less is = let same : w ≡ n = cc in omega (arith, less, same)
+node_named id n name less is = absurd cc
 
 named : (id n : ℕ) (name : CodeName) → n ≤ 64 → Has (test_names id n) (name_of name) → IsName name
 named id n name few (inl master) = master_named id name (sym master)

@@ -8,7 +8,7 @@ use Rattle.esr_model.specs.Values.{Bytes, Formats}
 use Rattle.esr_model.specs.Image.{Image}
 use Rattle.esr_core.specs.World.{World, ReadState, Restored, NotRestored, Restoring, Reader, Caller, no_caller}
 use Rattle.esr_core.specs.Restores.{more_read, shard_ended}
-use Rattle.esr_core.specs.Entry.{Read, ReadBlob, RestoredShard, CheckedAll, DrawTest, BeginTest, CommitTest, RemoveTests, VerifiedAll, ReadFails, Reply, WasFetched, Entry, Step, AskStep, LookStep, ReadStep, Refusal, IdsSpent, Refused, Moment}
+use Rattle.esr_core.specs.Entry.{Read, ReadBlob, RestoredShard, CheckedAll, DrawTest, ReadFails, Reply, WasFetched, Entry, Step, AskStep, LookStep, ReadStep, Refusal, IdsSpent, Refused, Moment}
 use Rattle.esr_core.specs.After.{told_blob, read_told, shard_over, read_over, read_step, read_by, is_heard, caller_after, caller_read, caller_by, stepped, after, answered, blobs_in}
 use Rattle.esr_core.specs.Past.{with_entry}
 use Rattle.esr_core.specs.Allowed.{SameBlobs, Blocks, ByFailedSwap, ByDelete, IsBlocked}
@@ -61,9 +61,7 @@ aside_over w k state (Some q) = aside_shard w k state q (fin.get w.restores q.op
 
 pub aside_step : (f : Formats) (w : World) (k : ℕ) (read : Read) (reply : Reply) (image : Option Image) → Aside w (read_step f w k read reply image)
 aside_step f w k (ReadBlob name) WasFetched image = aside_told w k name (told_blob f image name) (fin.get w.readers k)
-aside_step f w k (ReadBlob name) reply image = aside_same w
 aside_step f w k (RestoredShard files bytes) reply image = aside_over w k (Restored files bytes) (fin.get w.readers k)
-aside_step f w k (CheckedAll snapshots blobs) reply image = aside_same w
 aside_step f w k (ReadFails why) reply image = aside_over w k (NotRestored why) (fin.get w.readers k)
 aside_step f w k read reply image = aside_same w
 
@@ -80,11 +78,7 @@ aside_zero f w (ReadBlob name) reply image h = aside_same w
 aside_zero f w (RestoredShard files bytes) reply image h = aside_same w
 aside_zero f w (CheckedAll snapshots blobs) reply image h = aside_same w
 aside_zero f w (ReadFails why) reply image h = aside_same w
-aside_zero f w DrawTest reply image h = absurd h
-aside_zero f w (BeginTest name) reply image h = absurd h
-aside_zero f w (CommitTest name) reply image h = absurd h
-aside_zero f w (RemoveTests names) reply image h = absurd h
-aside_zero f w VerifiedAll reply image h = absurd h
+aside_zero f w read reply image h = absurd h
 
 pub aside_by : (f : Formats) (w : World) (k : ℕ) (read : Read) (reply : Reply) (image : Option Image) → IsNoTest read → Aside w (read_by f w k read reply image)
 aside_by f w zero read reply image h = aside_zero f w read reply image h
@@ -97,15 +91,8 @@ undrawn f c refusal image e = refl
 
 read_unheard : (f : Formats) (c : Caller) (who : ℕ) (read : Read) (refusal : Refusal) (image : Option Image) → is_heard (Refused refusal) ≡ false → caller_by f c who read (Refused refusal) image ≡ c
 read_unheard f c zero (ReadBlob name) refusal image e = refl
-read_unheard f c zero (RestoredShard files bytes) refusal image e = refl
-read_unheard f c zero (CheckedAll snapshots blobs) refusal image e = refl
-read_unheard f c zero (ReadFails why) refusal image e = refl
 read_unheard f c zero DrawTest refusal image e = undrawn f c refusal image e
-read_unheard f c zero (BeginTest name) refusal image e = refl
-read_unheard f c zero (CommitTest name) refusal image e = refl
-read_unheard f c zero (RemoveTests names) refusal image e = refl
-read_unheard f c zero VerifiedAll refusal image e = refl
-read_unheard f c (suc k) read refusal image e = refl
+read_unheard f c who read refusal image e = refl
 
 -- a refusal that isn't heard leaves what who 0 has done
 unheard : (f : Formats) (c : Caller) (who : ℕ) (step : Step) (refusal : Refusal) (image : Option Image) → is_heard (Refused refusal) ≡ false → caller_after f c who step (Refused refusal) image ≡ c

@@ -9,13 +9,13 @@ use Rattle.esr_model.specs.Values.{Bytes, Has, ShardResult, Formats}
 use Rattle.esr_model.specs.Delete.{PrunedShard, kept_count}
 use Rattle.esr_model.specs.Cleanup.{BlobSize}
 use Rattle.esr_model.specs.Image.{Image}
-use Rattle.esr_core.specs.World.{World, Op, ShardWork, Deletion, Work, Shard, Finalize, Deleting, Drop, Ticket, ReadState, Restored, NotRestored, RestoreShard, Restoring, Reader, Swap, swap, record_of}
+use Rattle.esr_core.specs.World.{World, Op, ShardWork, Deletion, Work, Deleting, Drop, Ticket, ReadState, Restored, NotRestored, RestoreShard, Restoring, Reader, Swap, swap, record_of}
 use Rattle.esr_core.specs.Restores.{restore_of, restore_shard}
 use Rattle.esr_core.specs.Steps.{with_ticket, noting, listing, completing, shard_ticket, final_ticket, plain_ticket}
 use Rattle.esr_core.specs.Turns.{Aborts, cleaning_ticket}
 use Rattle.esr_core.specs.Pruning.{planned_work, planned, dooms}
 use Rattle.esr_core.specs.Deletes.{with_named, named_uuids, waiting_delete, running_delete, aborted_ops, delete_merged, delete_by, asked_delete}
-use Rattle.esr_core.specs.Entry.{CloneOf, Snapshot, Clone, DeleteSnapshots, Restore, Cleanup, Given, GivenShard, GivenClone, GivenFinalize, GivenDrop, GivenRestore, GivenDelete, GivenCleanup, Read, ReadBlob, RestoredShard, CheckedAll, DrawTest, CommitTest, ReadFails, Prune, FetchShard, PlanShards, SettlePruned, RemoveDoomed, EndDelete, DeleteFails, Step, AskStep, TakeStep, DrawStep, BeginStep, CommitStep, LatestStep, FetchStep, ListStep, RaiseStep, SettleStep, DoneStep, FailedStep, FinishStep, DroppedStep, ElectStep, ReadStep, PruneStep, DepotFault, Reply, Gave, DrawnFrom, WasDone, WasThere, WasFetched, WasListed, HasEnded, Refused, AcceptedRestore}
+use Rattle.esr_core.specs.Entry.{CloneOf, Snapshot, Clone, DeleteSnapshots, Restore, Cleanup, Given, GivenShard, GivenClone, GivenFinalize, GivenDrop, GivenRestore, GivenDelete, GivenCleanup, Read, ReadBlob, RestoredShard, DrawTest, CommitTest, ReadFails, Prune, FetchShard, PlanShards, SettlePruned, EndDelete, DeleteFails, Step, AskStep, TakeStep, DrawStep, BeginStep, CommitStep, LatestStep, FetchStep, ListStep, RaiseStep, SettleStep, DoneStep, FailedStep, FinishStep, DroppedStep, ElectStep, ReadStep, PruneStep, DepotFault, Reply, Gave, DrawnFrom, WasDone, WasThere, WasFetched, WasListed, HasEnded, Refused, AcceptedRestore}
 use Rattle.esr_core.specs.After.{asked, asked_op, new_names, cloned_op, shard_of, taken_shard, taken_restore_shard, taken_restore, taken_by, with_given, committing, told_blob, fetching, settled_by, settled_of, done_by, done_of, is_stale, failed_by, failed_of, dropped_of, deletes_left, delete_settled_by, delete_settled, delete_failed_by, delete_failed, prune_step, read_told, shard_over, read_over, read_step, read_by, done_step, swaps_record, has_text, fallen, is_latest, tried, test_left, faulted, answered}
 use Rattle.esr_core.specs.History.{is_settle}
 use Rattle.esr_core.specs.Changes.{IsAsk, IsNewTicket, SameUnit, SameOp, AsBefore, OneAnew, StepChange, NoChange, NewOp, NewDeletion, MergedDeletion, NewRestore, NewTicket, NewReader, OwnTicket, Settlement, UnitEnd, DeletionFailure, OpDrop, Election, ReaderFetch, ReaderEnd, PlainDraw, TestBlob, SwapFault}
@@ -118,9 +118,7 @@ planned_unit f shards first t =
     by : (work : Work) → t.work ≡ work
         → (planned_work f t shards first t.work ≡ t.work) ⊎ ((uuids : List ℕ) × (plan : Option Swap) × (s : Swap) × (t.work ≡ Deleting uuids plan) × (planned_work f t shards first t.work ≡ Deleting uuids (Some s)))
     by (Deleting uuids plan) e = inr (uuids, plan, _, e, ap (planned_work f t shards first) e)
-    by (Shard i n) e = inl (ap (planned_work f t shards first) e ∙ sym e)
-    by (Finalize info results made) e = inl (ap (planned_work f t shards first) e ∙ sym e)
-    by Drop e = inl (ap (planned_work f t shards first) e ∙ sym e)
+    by work e = inl (ap (planned_work f t shards first) e ∙ sym e)
 
 -- ---- each step is one change
 
@@ -213,22 +211,19 @@ module _ (f : Formats) (w : World) (k : ℕ) (step : Step) where
 
   gives : step ≡ TakeStep → (o : ℕ) (unit : Given) (op : Option Op) → fin.get w.ops o ≡ op → StepChange f w k step (taken_by f w o unit op)
   gives take o (GivenShard index number base) (Some op) there = gives_shard take o op base (shard_of op.shards index number) there
-  gives take o (GivenShard index number base) None there = NoChange
   gives take o (GivenClone index number source base) (Some op) there = gives_shard take o op base (shard_of op.shards index number) there
-  gives take o (GivenClone index number source base) None there = NoChange
   gives take o (GivenFinalize info results) (Some op) there =
       NewTicket take (final_ticket f w o op results) (fresh _ refl) w.ops AsBefore
-  gives take o (GivenFinalize info results) None there = NoChange
   gives take o GivenDrop op there = NewTicket take (plain_ticket w o Drop) (fresh _ refl) w.ops AsBefore
   gives take o (GivenRestore index number uuid) op there = gives_restore take o index number (fin.get w.restores o) refl
   gives take o (GivenDelete uuids) op there = NewTicket take (plain_ticket w o (Deleting uuids None)) (fresh _ refl) w.ops AsBefore
   gives take o GivenCleanup op there =
       NewTicket take (cleaning_ticket w o) (fresh _ refl) w.ops AsBefore
+  gives take o unit op there = NoChange
 
   settles_by : is_settle step ≡ true → (t : Ticket) → fin.get w.tickets k ≡ Some t → (s : Option Swap) → swap f t ≡ s → (n : Option ℕ) → t.raised ≡ n → StepChange f w k step (settled_by f w k t s n)
   settles_by e t there (Some s) is (Some n) raised = Settlement e t s n [] (fin.remove w.deletes t.op) there is raised (inl refl)
-  settles_by e t there (Some s) is None raised = NoChange
-  settles_by e t there None is n raised = NoChange
+  settles_by e t there s is n raised = NoChange
 
   settles_of : is_settle step ≡ true → (o : Option Ticket) → fin.get w.tickets k ≡ o → StepChange f w k step (settled_of f w k o)
   settles_of e None there = NoChange
@@ -240,8 +235,7 @@ module _ (f : Formats) (w : World) (k : ℕ) (step : Step) where
       left_or : (b : Bool) → t.clean ≡ b → (deletes_left w t ≡ fin.remove w.deletes t.op) ⊎ ((t.clean ≡ true) × (deletes_left w t ≡ w.deletes))
       left_or false is = inl (ap (λ (c : Bool). if c then w.deletes else fin.remove w.deletes t.op) is)
       left_or true is = inr (is, ap (λ (c : Bool). if c then w.deletes else fin.remove w.deletes t.op) is)
-  prunes_by e t there (Some s) is None raised = NoChange
-  prunes_by e t there None is n raised = NoChange
+  prunes_by e t there s is n raised = NoChange
 
   prunes_of : is_settle step ≡ true → (o : Option Ticket) → fin.get w.tickets k ≡ o → StepChange f w k step (delete_settled f w k o)
   prunes_of e None there = NoChange
@@ -293,20 +287,17 @@ module _ (f : Formats) (w : World) (k : ℕ) (step : Step) where
 
   reads_step : (read : Read) (reply : Reply) (image : Option Image) → StepChange f w k step (read_step f w k read reply image)
   reads_step (ReadBlob name) WasFetched image = reads_told name (told_blob f image name) (fin.get w.readers k) refl
-  reads_step (ReadBlob name) reply image = NoChange
   reads_step (RestoredShard files bytes) reply image = ends_reader (Restored files bytes) (fin.get w.readers k) refl
-  reads_step (CheckedAll snapshots blobs) reply image = NoChange
   reads_step (ReadFails why) reply image = ends_reader (NotRestored why) (fin.get w.readers k) refl
   reads_step read reply image = NoChange
 
   prunes : (prune : Prune) → step ≡ PruneStep prune → (reply : Reply) (image : Option Image) → StepChange f w k step (prune_step f w k prune reply image)
   prunes (FetchShard name) is WasFetched image = changes (fetching name (told_blob f image name)) (fetching_unit name (told_blob f image name)) (fetching_settled name (told_blob f image name)) (fin.get w.tickets k) refl
-  prunes (FetchShard name) is reply image = NoChange
   prunes (PlanShards shards) is reply image = draws (planned f shards w.next_id) (planned_unit f shards w.next_id) (λ t. refl) (kept_count shards) (fin.get w.tickets k) refl
   prunes SettlePruned is reply image = prunes_of (ap is_settle is) (fin.get w.tickets k) refl
-  prunes (RemoveDoomed names) is reply image = NoChange
   prunes EndDelete is reply image = ends (fin.get w.tickets k) refl
   prunes (DeleteFails why) is reply image = fails_deletion (fin.get w.tickets k) refl
+  prunes prune is reply image = NoChange
 
   -- a record swap that failed
   falls : swaps_record step ≡ true → (up : World) (image : Option Image) → StepChange f w k step up → StepChange f w k step (fallen f w up image)
@@ -314,8 +305,7 @@ module _ (f : Formats) (w : World) (k : ℕ) (step : Step) where
 
   leaves_test : (name : BlobName) → step ≡ ReadStep (CommitTest name) → (was now : Option Bytes) → StepChange f w k step (test_left w name was now)
   leaves_test name is None (Some bytes) = TestBlob name is
-  leaves_test name is None None = NoChange
-  leaves_test name is (Some was) now = NoChange
+  leaves_test name is was now = NoChange
 
 -- ---- steps that read
 
@@ -353,10 +343,8 @@ module _ (f : Formats) (w : World) where
   faults : (k : ℕ) (step : Step) (image : Option Image) → StepChange f w k step (faulted f w k step image)
   faults k LatestStep image = tries f w k LatestStep
   faults k (BeginStep name) image = either f w k (BeginStep name) (is_latest name) (tried w k) w (tries f w k (BeginStep name)) NoChange
-  faults k (AskStep (Snapshot name indices moment)) image = falls f w k _ refl _ image (does k (AskStep (Snapshot name indices moment)) HasEnded image)
-  faults k (AskStep (Clone source name indices moment taken)) image = falls f w k _ refl _ image (does k (AskStep (Clone source name indices moment taken)) HasEnded image)
-  faults k (AskStep (DeleteSnapshots names)) image = falls f w k _ refl _ image (does k (AskStep (DeleteSnapshots names)) HasEnded image)
-  faults k (AskStep Cleanup) image = falls f w k _ refl _ image (does k (AskStep Cleanup) HasEnded image)
+  faults k (AskStep (Restore name place)) image = NoChange
+  faults k (AskStep command) image = falls f w k (AskStep command) refl _ image (does k (AskStep command) HasEnded image)
   faults k RaiseStep image = falls f w k _ refl _ image (does k RaiseStep HasEnded image)
   faults k SettleStep image = falls f w k _ refl _ image (does k SettleStep HasEnded image)
   faults k DroppedStep image = falls f w k _ refl _ image (does k DroppedStep HasEnded image)

@@ -4,7 +4,7 @@ use Rattle.std.specs.Prelude.{◌==◌, ◌&&◌, ◌||◌}
 use Rattle.std.specs.List.{list_any}
 use Rattle.std.proofs.lemmas.Bool.{eqb-true as number_is, and_from, cond-true, cond-false, cases_Bool, and_parts}
 use Rattle.std.proofs.lemmas.Option.{same_Some}
-use Rattle.esr_model.specs.Names.{BlobName, Root, Latest, Snap, Meta, IndexMeta, ShardSnap, ShardIndex, File, Part, TestMaster, TestNode}
+use Rattle.esr_model.specs.Names.{BlobName, Root, Latest, Snap, Meta, IndexMeta, ShardSnap, ShardIndex, File, Part}
 use Rattle.esr_model.specs.Values.{Bytes, Has, RootSnap, RootIndex, RootData, FileEntry, SnapList, ShardFiles, Formats}
 use Rattle.esr_model.specs.Shelf.{names_uuid}
 use Rattle.esr_model.specs.Parts.{part_names}
@@ -51,16 +51,7 @@ file_told i k x (File a b c) e =
     let outer = and_parts ((a == i) && (b == k)) (c == x) e in
     let inner = and_parts (a == i) (b == k) outer.0 in
     λ j. File (number_is a i inner.0 j) (number_is b k inner.1 j) (number_is c x outer.1 j)
-file_told i k x (Root n) e = absurd (clash false e refl)
-file_told i k x Latest e = absurd (clash false e refl)
-file_told i k x (Snap u) e = absurd (clash false e refl)
-file_told i k x (Meta u) e = absurd (clash false e refl)
-file_told i k x (IndexMeta a u) e = absurd (clash false e refl)
-file_told i k x (ShardSnap a s u) e = absurd (clash false e refl)
-file_told i k x (ShardIndex a s g) e = absurd (clash false e refl)
-file_told i k x (Part a s n p) e = absurd (clash false e refl)
-file_told i k x (TestMaster v) e = absurd (clash false e refl)
-file_told i k x (TestNode v n) e = absurd (clash false e refl)
+file_told i k x name e = absurd (clash false e refl)
 
 part_told : (i k x p : ℕ) (name : BlobName) → is_part i k x p name ≡ true → name ≡ Part i k x p
 part_told i k x p (Part a b c d) e =
@@ -68,16 +59,7 @@ part_told i k x p (Part a b c d) e =
     let inner = and_parts (a == i) (b == k) outer.0 in
     let last = and_parts (c == x) (d == p) outer.1 in
     λ j. Part (number_is a i inner.0 j) (number_is b k inner.1 j) (number_is c x last.0 j) (number_is d p last.1 j)
-part_told i k x p (Root n) e = absurd (clash false e refl)
-part_told i k x p Latest e = absurd (clash false e refl)
-part_told i k x p (Snap u) e = absurd (clash false e refl)
-part_told i k x p (Meta u) e = absurd (clash false e refl)
-part_told i k x p (IndexMeta a u) e = absurd (clash false e refl)
-part_told i k x p (ShardSnap a s u) e = absurd (clash false e refl)
-part_told i k x p (ShardIndex a s g) e = absurd (clash false e refl)
-part_told i k x p (File a s n) e = absurd (clash false e refl)
-part_told i k x p (TestMaster v) e = absurd (clash false e refl)
-part_told i k x p (TestNode v n) e = absurd (clash false e refl)
+part_told i k x p name e = absurd (clash false e refl)
 
 file_test : (i k x : ℕ) → is_file i k x (File i k x) ≡ true
 file_test i k x = and_from ((i == i) && (k == k)) (x == x) (and_from (i == i) (k == k) (same_number i) (same_number k)) (same_number x)
@@ -132,8 +114,7 @@ module _ (f : Formats) (has : BlobName → Bytes → Type 0) (root : RootData) (
       ]
   reached_by (File i k x) e = let (name, own, r) = piece_of (is_file i k x) i k e in inr (inr (subst (Reached f has root) (file_told i k x name own) r))
   reached_by (Part i k x p) e = let (name, own, r) = piece_of (is_part i k x p) i k e in inr (inr (subst (Reached f has root) (part_told i k x p name own) r))
-  reached_by (TestMaster v) e = absurd (clash false e refl)
-  reached_by (TestNode v n) e = absurd (clash false e refl)
+  reached_by name e = absurd (clash false e refl)
 
   module _ (func : IsOne has) where
     -- an index that is there is the one that was read

@@ -106,11 +106,9 @@ set_own (x ∷ gs) zero to g e = e
 set_own (x ∷ gs) (suc k) to g e = set_own gs k to g e
 
 set_other : (gs : List (Option ℕ)) (k n : ℕ) (to : Option ℕ) → (n ≡ k → ⊥) → at_shard (set gs k to) n ≡ at_shard gs n
-set_other [] k n to h = refl
 set_other (x ∷ gs) zero zero to h = absurd (h refl)
-set_other (x ∷ gs) zero (suc n) to h = refl
-set_other (x ∷ gs) (suc k) zero to h = refl
 set_other (x ∷ gs) (suc k) (suc n) to h = set_other gs k n to (λ e. h (ap suc e))
+set_other gs k n to h = refl
 
 pub fresh_of : (i k : ℕ) (to : Option ℕ) (root : RootData) (j n : ℕ) → at_shard_of (index_at (set_fresh i k to root).indices j) n ≡ at_shard_of (option_map (fresh_in i k to) (index_at root.indices j)) n
 fresh_of i k to root j n = ap (λ (o : Option RootIndex). at_shard_of o n) (index_fresh i k to root.indices j)

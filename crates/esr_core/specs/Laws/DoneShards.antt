@@ -33,8 +33,6 @@ pub found_done : (shards : List ShardWork) (results : List ShardResult) → AllD
     → (index shard g : ℕ) → done_at results index shard ≡ Some g
     → (s : ShardWork) × Has shards s × ((r : ShardResult) × (s.state ≡ Done r) × (s.ref.id ≡ index) × (s.number ≡ shard) × (r.generation ≡ g))
 found_done [] [] d ids index shard g e = absurd (cc)
-found_done [] (r ∷ rs) d ids index shard g e = absurd d
-found_done (x ∷ xs) [] d ids index shard g e = absurd d
 found_done (x ∷ xs) (r ∷ rs) d ids index shard g e = elim (tested r index shard) [
   | inl h ↦
       let same : r.generation ≡ g = same_Some _ _ (sym (cond-true _ _ _ h.2) ∙ e) in
@@ -44,6 +42,7 @@ found_done (x ∷ xs) (r ∷ rs) d ids index shard g e = elim (tested r index sh
       let rest = found_done xs rs d.1 (λ s q m. ids s q (inr m)) index shard g (sym (cond-false _ _ _ h.0) ∙ e) in
       (rest.0, inr rest.1, rest.2)
 ]
+found_done shards results d ids index shard g e = absurd d
 
 -- the generation of a done shard is found, where no two are of one place
 pub done_found : (shards : List ShardWork) (results : List ShardResult) → AllDone shards results

@@ -10,10 +10,10 @@ use Rattle.esr_model.specs.Names.{BlobName}
 use Rattle.esr_model.specs.Values.{Bytes, RootData, Formats}
 use Rattle.esr_model.specs.Image.{Image}
 use Rattle.esr_model.specs.Delete.{PrunedShard, kept_count}
-use Rattle.esr_core.specs.World.{World, Op, Deletion, Work, Shard, Finalize, Deleting, Drop, Ticket, Swap, swap}
+use Rattle.esr_core.specs.World.{World, Op, Deletion, Work, Deleting, Ticket, Swap, swap}
 use Rattle.esr_core.specs.Steps.{with_ticket}
 use Rattle.esr_core.specs.Pruning.{planned_work, planned, dooms}
-use Rattle.esr_core.specs.Entry.{Prune, FetchShard, PlanShards, SettlePruned, RemoveDoomed, EndDelete, DeleteFails, Reply, WasFetched}
+use Rattle.esr_core.specs.Entry.{Prune, FetchShard, PlanShards, SettlePruned, EndDelete, DeleteFails, Reply, WasFetched}
 use Rattle.esr_core.specs.After.{with_given, fetching, told_blob, is_stale, deletes_left, delete_settled_by, delete_settled, delete_failed_by, delete_failed, prune_step}
 
 -- one ticket is given anew: under its number and term, and out only where it was; a delete's stays one, and no other changes its work
@@ -88,15 +88,11 @@ planned_deleting f t shards first (Deleting us p) uuids plan e = (p, ap (λ (x :
   where
     same_uuids : {a b : List ℕ} {p q : Option Swap} → Deleting a p ≡ Deleting b q → a ≡ b
     same_uuids h = cc
-planned_deleting f t shards first (Shard i n) uuids plan e = absurd (cc)
-planned_deleting f t shards first (Finalize info results made) uuids plan e = absurd (cc)
-planned_deleting f t shards first Drop uuids plan e = absurd (cc)
+planned_deleting f t shards first work uuids plan e = absurd (cc)
 
 planned_other : (f : Formats) (t : Ticket) (shards : List PrunedShard) (first : ℕ) (work : Work) → ((uuids : List ℕ) (plan : Option Swap) → work ≡ Deleting uuids plan → ⊥) → planned_work f t shards first work ≡ work
 planned_other f t shards first (Deleting us p) none = absurd (none us p refl)
-planned_other f t shards first (Shard i n) none = refl
-planned_other f t shards first (Finalize info results made) none = refl
-planned_other f t shards first Drop none = refl
+planned_other f t shards first work none = refl
 
 plan_anew : (f : Formats) (tickets : FinMap nat_cmp Ticket) (k : ℕ) (t : Ticket) (shards : List PrunedShard) (first : ℕ) → fin.get tickets k ≡ Some t → Anew tickets (fin.insert tickets k (planned f shards first t)) k
 plan_anew f tickets k t shards first there =
@@ -132,8 +128,7 @@ stays_settled_by f w k t (Some s) (Some n) there =
     left_none : (b : Bool) → w.deletes ≡ fin.empty → cond b w.deletes (fin.remove w.deletes t.op) ≡ fin.empty
     left_none true e = e
     left_none false e = none_left w.deletes t.op e
-stays_settled_by f w k t (Some s) None there = stays_same w k
-stays_settled_by f w k t None n there = stays_same w k
+stays_settled_by f w k t s n there = stays_same w k
 
 pub stays_settled : (f : Formats) (w : World) (k : ℕ) (o : Option Ticket) → fin.get w.tickets k ≡ o → PruneStays w (delete_settled f w k o) k
 stays_settled f w k None there = stays_same w k
@@ -161,11 +156,10 @@ pub prune_stays : (f : Formats) (w : World) (k : ℕ) (prune : Prune) (reply : R
 prune_stays f w k (FetchShard name) WasFetched image =
     keeps_id w k (fetching name (told_blob f image name)) (fin.get w.tickets k)
     (stays_given w k (fetching name (told_blob f image name)) w.next_id (fin.get w.tickets k) (omega arith) (λ t there. fetched w.tickets k t name (told_blob f image name) there))
-prune_stays f w k (FetchShard name) reply image = stays_same w k
 prune_stays f w k (PlanShards shards) reply image =
     stays_given w k (planned f shards w.next_id) (w.next_id + kept_count shards) (fin.get w.tickets k) (omega arith) (λ t there. plan_anew f w.tickets k t shards w.next_id there)
 prune_stays f w k SettlePruned reply image = stays_settled f w k (fin.get w.tickets k) refl
-prune_stays f w k (RemoveDoomed names) reply image = stays_same w k
 prune_stays f w k EndDelete reply image =
     keeps_id w k (λ (t : Ticket). record t { out = false }) (fin.get w.tickets k) (stays_given w k (λ (t : Ticket). record t { out = false }) w.next_id (fin.get w.tickets k) (omega arith) (λ t there. ended w.tickets k t there))
 prune_stays f w k (DeleteFails why) reply image = stays_failed w k (fin.get w.tickets k) refl
+prune_stays f w k prune reply image = stays_same w k

@@ -13,7 +13,7 @@ use Rattle.esr_core.specs.World.{World, Op, ShardWork, Drop, Swap, Ticket, swap,
 use Rattle.esr_core.specs.Steps.{noting, listing, with_ticket, shard_ticket, final_ticket, plain_ticket}
 use Rattle.esr_core.specs.Turns.{cleaning_ticket}
 use Rattle.esr_core.specs.Pruning.{planned, dooms}
-use Rattle.esr_core.specs.Entry.{CloneOf, Snapshot, Restore, Given, GivenShard, GivenClone, GivenFinalize, GivenDrop, GivenRestore, Step, AskStep, TakeStep, ListStep, WasListed, DrawStep, BeginStep, CommitStep, LatestStep, FetchStep, RaiseStep, SettleStep, DoneStep, FailedStep, FinishStep, DroppedStep, ElectStep, ReadStep, DepotFault, Reply, Gave, WasDone, WasThere, WasFetched, HasEnded, Refused, Clone, DeleteSnapshots, Cleanup, GivenDelete, GivenCleanup, Prune, FetchShard, PlanShards, SettlePruned, RemoveDoomed, EndDelete, DeleteFails, PruneStep, is_recorded}
+use Rattle.esr_core.specs.Entry.{CloneOf, Snapshot, Restore, Given, GivenShard, GivenClone, GivenFinalize, GivenDrop, GivenRestore, Step, AskStep, TakeStep, ListStep, WasListed, DrawStep, BeginStep, CommitStep, LatestStep, FetchStep, RaiseStep, SettleStep, DoneStep, FailedStep, FinishStep, DroppedStep, ElectStep, ReadStep, DepotFault, Reply, Gave, WasDone, WasThere, WasFetched, HasEnded, Refused, Clone, DeleteSnapshots, Cleanup, GivenDelete, GivenCleanup, Prune, FetchShard, PlanShards, SettlePruned, EndDelete, DeleteFails, PruneStep, is_recorded}
 use Rattle.esr_core.specs.After.{asked, asked_op, cleanup_opened, cloned_op, taken_shard, taken_by, shard_of, with_given, committing, told_blob, fetching, settled_by, settled_of, done_by, done_of, is_stale, failed_by, failed_of, dropped_of, done_step, has_text, fallen, is_latest, tried, faulted, answered, delete_settled_by, delete_settled, delete_failed_by, delete_failed, prune_step}
 use Rattle.esr_core.specs.Deletes.{named_uuids, waiting_delete, running_delete, aborted_ops, delete_merged, delete_by, asked_delete}
 use Rattle.esr_core.specs.Laws.DeleteAsks.{aborts}
@@ -117,21 +117,18 @@ IsOld step reply = Unit {0}
 
 goes_taken : (f : Formats) (w : World) (o : ℕ) (unit : Given) (op : Option Op) → IsOldUnit unit → fin.get w.ops o ≡ op → Goes w (taken_by f w o unit op)
 goes_taken f w o (GivenShard index number base) (Some op) old is = goes_shard w o op base (shard_of op.shards index number) is
-goes_taken f w o (GivenShard index number base) None old is = goes_same w
 goes_taken f w o (GivenClone index number source base) (Some op) old is = goes_shard w o op base (shard_of op.shards index number) is
-goes_taken f w o (GivenClone index number source base) None old is = goes_same w
 goes_taken f w o (GivenFinalize info results) (Some op) old is = goes_new w (final_ticket f w o op results) w.ops (as_was w.ops w.next_op)
-goes_taken f w o (GivenFinalize info results) None old is = goes_same w
 goes_taken f w o GivenDrop op old is = goes_new w (plain_ticket w o Drop) w.ops (as_was w.ops w.next_op)
 goes_taken f w o (GivenRestore index number uuid) op old is = absurd old
 goes_taken f w o (GivenDelete uuids) op old is = goes_new w (plain_ticket w o (Deleting uuids None)) w.ops (as_was w.ops w.next_op)
 goes_taken f w o GivenCleanup op old is = goes_new w (cleaning_ticket w o) w.ops (as_was w.ops w.next_op)
+goes_taken f w o unit op old is = goes_same w
 
 goes_settled_by : (f : Formats) (w : World) (k : ℕ) (t : Ticket) (s : Option Swap) (n : Option ℕ) → fin.get w.tickets k ≡ Some t → Goes w (settled_by f w k t s n)
 goes_settled_by f w k t (Some s) (Some n) is =
     goes_on w _ refl (λ name m. m) (omega arith) (omega arith) (omega arith) (less w.ops w.next_op t.op) (less w.deletes w.next_op t.op) (again w.tickets w.next_ticket k t (record t { settled = true }) is)
-goes_settled_by f w k t (Some s) None is = goes_same w
-goes_settled_by f w k t None n is = goes_same w
+goes_settled_by f w k t s n is = goes_same w
 
 goes_settled : (f : Formats) (w : World) (k : ℕ) (o : Option Ticket) → fin.get w.tickets k ≡ o → Goes w (settled_of f w k o)
 goes_settled f w k None is = goes_same w
@@ -174,8 +171,7 @@ goes_delete_settled_by f w k t (Some s) (Some n) is =
     left_or : (b : Bool) → OldOrNew w.deletes w.next_op (if b then w.deletes else fin.remove w.deletes t.op)
     left_or true = as_was w.deletes w.next_op
     left_or false = less w.deletes w.next_op t.op
-goes_delete_settled_by f w k t (Some s) None is = goes_same w
-goes_delete_settled_by f w k t None n is = goes_same w
+goes_delete_settled_by f w k t s n is = goes_same w
 
 goes_delete_settled : (f : Formats) (w : World) (k : ℕ) (o : Option Ticket) → fin.get w.tickets k ≡ o → Goes w (delete_settled f w k o)
 goes_delete_settled f w k None is = goes_same w
@@ -193,12 +189,11 @@ goes_delete_failed w k (Some t) is =
 
 goes_prune : (f : Formats) (w : World) (k : ℕ) (prune : Prune) (reply : Reply) (image : Option Image) → Goes w (prune_step f w k prune reply image)
 goes_prune f w k (FetchShard name) WasFetched image = goes_change w k (fetching name (told_blob f image name)) (fin.get w.tickets k) refl
-goes_prune f w k (FetchShard name) reply image = goes_same w
 goes_prune f w k (PlanShards shards) reply image = goes_drawn w k (kept_count shards) (planned f shards w.next_id) (fin.get w.tickets k) refl
 goes_prune f w k SettlePruned reply image = goes_delete_settled f w k (fin.get w.tickets k) refl
-goes_prune f w k (RemoveDoomed names) reply image = goes_same w
 goes_prune f w k EndDelete reply image = goes_change w k (λ t. record t { out = false }) (fin.get w.tickets k) refl
 goes_prune f w k (DeleteFails why) reply image = goes_delete_failed w k (fin.get w.tickets k) refl
+goes_prune f w k prune reply image = goes_same w
 
 -- ---- a delete that is asked
 
@@ -266,10 +261,8 @@ goes_fallen f w up image h =
 goes_fault : (f : Formats) (w : World) (room : w.next_id ≤ first_id (suc w.term)) (k : ℕ) (step : Step) (image : Option Image) → IsOld step (Refused DepotFault) → Goes w (faulted f w k step image)
 goes_fault f w room k LatestStep image old = goes_change w k (λ t. record t { tried_latest = true }) (fin.get w.tickets k) refl
 goes_fault f w room k (BeginStep name) image old = goes_either w (tried w k) w (is_latest name) (goes_change w k (λ t. record t { tried_latest = true }) (fin.get w.tickets k) refl) (goes_same w)
-goes_fault f w room k (AskStep (Snapshot name indices moment)) image old = goes_fallen f w _ image (goes_step f w room k (AskStep (Snapshot name indices moment)) HasEnded image tt)
-goes_fault f w room k (AskStep (Clone source name indices moment taken)) image old = goes_fallen f w _ image (goes_clone w source name indices moment taken)
-goes_fault f w room k (AskStep (DeleteSnapshots names)) image old = goes_fallen f w _ image (goes_delete w names)
-goes_fault f w room k (AskStep Cleanup) image old = goes_fallen f w _ image (goes_cleanup w)
+goes_fault f w room k (AskStep (Restore name place)) image old = absurd old
+goes_fault f w room k (AskStep command) image old = goes_fallen f w (done_step f w k (AskStep command) HasEnded image) image (goes_step f w room k (AskStep command) HasEnded image tt)
 goes_fault f w room k RaiseStep image old = goes_fallen f w _ image (goes_step f w room k RaiseStep HasEnded image tt)
 goes_fault f w room k SettleStep image old = goes_fallen f w _ image (goes_step f w room k SettleStep HasEnded image tt)
 goes_fault f w room k DroppedStep image old = goes_fallen f w _ image (goes_step f w room k DroppedStep HasEnded image tt)

@@ -9,10 +9,10 @@ use Rattle.esr_model.specs.Names.{BlobName}
 use Rattle.esr_model.specs.Values.{Has, Formats}
 use Rattle.esr_model.specs.Image.{Image}
 use Rattle.esr_core.specs.World.{World, Ticket, Caller}
-use Rattle.esr_core.specs.Entry.{Step, AskStep, LookStep, ReadStep, Reply, Moment}
+use Rattle.esr_core.specs.Entry.{Step, AskStep, LookStep, Reply, Moment}
 use Rattle.esr_core.specs.After.{caller_after, answered, after}
 use Rattle.esr_core.specs.Allowed.{Allowed}
-use Rattle.esr_core.specs.Changes.{IsNewTicket, SameUnit, StepChange, NoChange, NewOp, NewDeletion, MergedDeletion, NewRestore, NewTicket, NewReader, OwnTicket, Settlement, UnitEnd, DeletionFailure, OpDrop, Election, ReaderFetch, ReaderEnd, PlainDraw, TestBlob, SwapFault, TicketsCome, TicketsStay, StepFrame, IsReaders, IsUnits, Maker, ClientStep, ReaderStep, UnitStep}
+use Rattle.esr_core.specs.Changes.{IsNewTicket, SameUnit, StepChange, NoChange, MergedDeletion, NewTicket, NewReader, OwnTicket, Settlement, UnitEnd, DeletionFailure, OpDrop, Election, ReaderFetch, ReaderEnd, PlainDraw, TestBlob, SwapFault, TicketsCome, TicketsStay, StepFrame, IsReaders, IsUnits, Maker, ClientStep, ReaderStep, UnitStep}
 use Rattle.esr_core.specs.Laws.Asides.{blocked_stays}
 use Rattle.esr_core.specs.Laws.ChangeLaws.{same_unit, over_unit, settled_unit, change_of, one_more as up}
 use Rattle.esr_core.specs.Laws.Makers.{maker}
@@ -83,10 +83,7 @@ module _ (f : Formats) (w : World) (who : ℕ) (step : Step) where
 
   frame : (new : World) → StepChange f w who step new → StepFrame w new who step
   frame new NoChange = quiet new (kept_same w who) (others_same w who w.readers) refl refl refl (le_refl w.next_op) (le_refl w.next_ticket) (le_refl w.pending) (λ name h. h)
-  frame new (NewOp ask op completed next_id uuid above) = quiet new (kept_same w who) (others_same w who w.readers) refl refl refl (up w.next_op) (le_refl w.next_ticket) (le_refl w.pending) (λ name h. h)
-  frame new (NewDeletion ask ops x aborts clean) = quiet new (kept_same w who) (others_same w who w.readers) refl refl refl (up w.next_op) (le_refl w.next_ticket) (le_refl w.pending) (λ name h. h)
   frame new (MergedDeletion ask ops d x v aborts there clean failed) = quiet new (kept_same w who) (others_same w who w.readers) refl refl refl (le_refl w.next_op) (le_refl w.next_ticket) (le_refl w.pending) (λ name h. h)
-  frame new (NewRestore ask r) = quiet new (kept_same w who) (others_same w who w.readers) refl refl refl (up w.next_op) (le_refl w.next_ticket) (le_refl w.pending) (λ name h. h)
   frame new (NewTicket take t fresh ops same) = quiet new (kept_new w who t fresh) (others_same w who w.readers) refl refl refl (le_refl w.next_op) (up w.next_ticket) (le_refl w.pending) (λ name h. h)
   frame new (NewReader take o r s there) = quiet new (kept_same w who) (others_new w who w.readers _) refl refl refl (le_refl w.next_op) (up w.next_ticket) (le_refl w.pending) (λ name h. h)
   frame new (OwnTicket t v there unit settled next_id pending id_above above) = put t v there unit new refl refl refl refl refl (le_refl w.next_op) (le_refl w.next_ticket) above refl
@@ -127,27 +124,12 @@ module _ (f : Formats) (w : World) (who : ℕ) (step : Step) where
   frame new (SwapFault e v h) =
       let s = frame v h in
       record { others = s.others; readers = s.readers; come = s.come; stay = s.stay; term = s.term; root = s.root; next_op = s.next_op; next_ticket = s.next_ticket; pending = s.pending; doomed = s.doomed }
+  frame new other = quiet new (kept_same w who) (others_same w who w.readers) refl refl refl (up w.next_op) (le_refl w.next_ticket) (le_refl w.pending) (λ name h. h)
 
   -- what who 0 has done is told by the moment
   pub change_caller : (new : World) → StepChange f w who step new → new.caller ≡ w.caller
-  change_caller new NoChange = refl
-  change_caller new (NewOp ask op completed next_id uuid above) = refl
-  change_caller new (NewDeletion ask ops x aborts clean) = refl
-  change_caller new (MergedDeletion ask ops d x v aborts there clean failed) = refl
-  change_caller new (NewRestore ask r) = refl
-  change_caller new (NewTicket take t fresh ops same) = refl
-  change_caller new (NewReader take o r s there) = refl
-  change_caller new (OwnTicket t v there unit settled next_id pending id_above above) = refl
-  change_caller new (Settlement e t s n names deletes there is raised left) = refl
-  change_caller new (UnitEnd t op v completed there found same) = refl
-  change_caller new (DeletionFailure t x there found) = refl
-  change_caller new (OpDrop e t there) = refl
-  change_caller new (Election e) = refl
-  change_caller new (ReaderFetch q name bytes there) = refl
-  change_caller new (ReaderEnd q r state there found) = refl
-  change_caller new (PlainDraw next_id pending id_above above) = refl
-  change_caller new (TestBlob name is) = refl
   change_caller new (SwapFault e v h) = change_caller v h
+  change_caller new other = refl
 
 -- of a moment
 pub step_frame : (f : Formats) (w : World) (m : Moment) → StepFrame w (after f w m) m.entry.who m.entry.step
@@ -162,8 +144,7 @@ caller_kept : (f : Formats) (c : Caller) (who : ℕ) (step : Step) (reply : Repl
 caller_kept f c zero step reply image apart h = absurd (apart refl)
 caller_kept f c (suc k) (AskStep command) reply image apart h = elim h [ inl x ↦ absurd x | inr x ↦ absurd x ]
 caller_kept f c (suc k) LookStep reply image apart h = elim h [ inl x ↦ absurd x | inr x ↦ absurd x ]
-caller_kept f c (suc k) (ReadStep read) reply image apart h = refl
-caller_kept f c (suc k) step reply image apart h = refl
+caller_kept f c who step reply image apart h = refl
 
 pub caller_stays : (f : Formats) (size : ℕ) (w : World) (m : Moment) → Allowed f size w m → m.entry.who ≢ 0 → (after f w m).caller ≡ w.caller
 caller_stays f size w m a apart = elim (maker f size w m a) [

@@ -1,26 +1,16 @@
 -- What was given was so by its step.
 use Rattle.std.proofs.Common.{◌≡◌, ℕ, Option, refl, sym, subst, inl, inr, ◌∙◌}
 use Rattle.esr_core.specs.Allowed as allowed
-use Rattle.esr_model.specs.Values.{Bytes, Formats}
+use Rattle.esr_model.specs.Values.{Formats}
 use Rattle.esr_model.specs.Image.{Image}
 use Rattle.esr_core.specs.World.{World}
-use Rattle.esr_core.specs.Entry.{Given, Step, Refusal, Reply, Gave, Refused, Moment}
-use Rattle.esr_core.specs.Allowed.{RestoreAllows, Allows, Allowed}
+use Rattle.esr_core.specs.Entry.{Given, Step, Refusal, Gave, Refused, Moment}
+use Rattle.esr_core.specs.Allowed.{Allows, Allowed}
 use Rattle.esr_core.specs.Causes.{TakeGave}
-
-restore_gives : {f : Formats} {w : World} {name : Bytes} {k o : ℕ} {unit : Given} {reply : Reply} {image : Option Image} → RestoreAllows f w name reply image → reply ≡ Gave k o unit → ⊥
-restore_gives (allowed.OpeningRestore o uuid indices im acc) e = cc
-restore_gives (allowed.NotListed im none) e = cc
-restore_gives (allowed.NamedByDelete uuid d im listed named) e = cc
-restore_gives (allowed.FullOfRestores uuid im listed spared full) e = cc
 
 module _ (f : Formats) (size : ℕ) (w : World) where
   gave_by : (who : ℕ) (step : Step) (k o : ℕ) (unit : Given) (image : Option Image) → Allows f size w who step (Gave k o unit) image → TakeGave f w who step k o unit
   gave_by who step k o unit image (allowed.Giving j p u im is lowest g same) = record { who_is = refl; step_is = refl; number = is; lowest = lowest; gives = g }
-  gave_by who step k o unit image (allowed.AskingRestore name place rep im h same) = absurd (restore_gives h refl)
-  gave_by who step k o unit image (allowed.AskingClone source name names moment taken rep im h same) = elim h [ ]
-  gave_by who step k o unit image (allowed.AskingDelete names rep im h same) = elim h [ ]
-  gave_by who step k o unit image (allowed.AskingCleanup rep im h same) = elim h [ ]
   gave_by who step k o unit image (allowed.Verifying read rep im h) = elim h [ ]
   gave_by who step k o unit image (allowed.Pruning j prune rep im h) = elim h [ ]
   gave_by who step k o unit image (allowed.Reading j read rep im h same) = elim h [ ]

@@ -60,8 +60,8 @@ making_can_be_written-requires c =
     let root = root_of c.args.root.now in
     let indices = map asked_index_of c.parts-moment.result.1.now in
     let list = listed s.ops.now s.deletes.now s.completed.now s.tickets.now s.next_op s.restores.now c.args.progress.now c.lists-list.ensures.valid c.lists-list.ensures.view in
-    let are = ap (λ (refs : List CodeRef). map ref_of_code refs) c.refs.view_is ∙ c.in_ok-refs.ensures.refs in
-    refs_fit s.ops.now root c.args.next.number indices c.refs.inside.items.items are s.deletes.now c.args.progress.now list c.requires.named
+    let are = c.in_ok-refs.ensures.refs in
+    refs_fit s.ops.now root c.args.next.number indices c.in_ok-refs.refs are s.deletes.now c.args.progress.now list c.requires.named
     (asked_of c.args.command.now) c.parts-moment.result.0.now c.parts-moment.result.2 c.parts-moment.ensures c.requires.askable
 
 pub begin-requires-clause-apart : goal.begin-requires-clause-apart
@@ -70,15 +70,15 @@ begin-requires-clause-apart c =
     let root = root_of c.args.root.now in
     let indices = map asked_index_of c.parts-moment.result.1.now in
     let list = listed s.ops.now s.deletes.now s.completed.now s.tickets.now s.next_op s.restores.now c.args.progress.now c.lists-list.ensures.valid c.lists-list.ensures.view in
-    let are = ap (λ (refs : List CodeRef). map ref_of_code refs) c.refs.view_is ∙ c.in_ok-refs.ensures.refs in
-    refs_fit s.ops.now root c.args.next.number indices c.refs.inside.items.items are s.deletes.now c.args.progress.now list c.requires.named
+    let are = c.in_ok-refs.ensures.refs in
+    refs_fit s.ops.now root c.args.next.number indices c.in_ok-refs.refs are s.deletes.now c.args.progress.now list c.requires.named
     (asked_of c.args.command.now) c.parts-moment.result.0.now c.parts-moment.result.2 c.parts-moment.ensures c.requires.askable
 
 pub begin-requires-clause-same : goal.begin-requires-clause-same
 begin-requires-clause-same c =
     let asked = c.parts-moment.result.1.now in
-    let are = ap (λ (refs : List CodeRef). map ref_of_code refs) c.refs.view_is ∙ c.in_ok-refs.ensures.refs in
-    refs_count c.lists-list.result.ops.now (root_of c.args.root.now) c.args.next.number (map asked_index_of asked) c.refs.inside.items.items are ∙ length-map asked asked_index_of
+    let are = c.in_ok-refs.ensures.refs in
+    refs_count c.lists-list.result.ops.now (root_of c.args.root.now) c.args.next.number (map asked_index_of asked) c.in_ok-refs.refs are ∙ length-map asked asked_index_of
 
 pub returns : goal.returns
 returns c w is =
@@ -91,8 +91,8 @@ returns c w is =
     let list = listed s.ops.now s.deletes.now s.completed.now s.tickets.now s.next_op s.restores.now p c.lists-list.ensures.valid c.lists-list.ensures.view in
     let drawn : c.in_ok-refs.new + 1 ≡ suc (new_by (known_in root s.ops.now) indices) = omega (arith, c.in_ok-refs.ensures.new) in
     let fits : c.args.next.number + (c.in_ok-refs.new + 1) < first_id (suc c.args.term) = omega (arith, c.from.ensures, c.new.ensures, c.if-next-from.false) in
-    let are = ap (λ (refs : List CodeRef). map ref_of_code refs) c.refs.view_is ∙ c.in_ok-refs.ensures.refs in
-    let m : Making = record { indices = c.refs.inside.items.items; moment = moment; name = c.in_ok-try_clone.field-0; uuid = c.args.next } in (
+    let are = c.in_ok-refs.ensures.refs in
+    let m : Making = record { indices = c.in_ok-refs.refs; moment = moment; name = c.in_ok-try_clone.field-0; uuid = c.args.next } in (
       subst (λ (x : Asked). MayAccept w (name_asked x)) (sym c.parts-moment.ensures)
           (may_accept s.ops.now s.deletes.now p root c.args.term c.args.next.number list w is name c.in_default.ensures),
       subst (λ (x : Asked). IsAccepted w x c.in_ok-after.after (record { op = s.next_op; drawn = c.in_ok-refs.new + 1 })) (sym c.parts-moment.ensures)

@@ -1,4 +1,4 @@
-use Rattle.std.proofs.Common.{◌≡◌, ◌+◌, ℕ, List, [], ◌∷◌, map, take, get_or, refl, sym, ap, ◌∙◌, subst}
+use Rattle.std.proofs.Common.{◌≡◌, ◌+◌, ℕ, List, map, take, get_or, refl, sym, ap, ◌∙◌, subst}
 use Rattle.esr_model.specs.Loops.{next, all, item_is}
 use Rattle.esr_model.specs.Delete.{PrunedShard, next_after, kept_count, left_uuids, uuids_of, pruned_blobs}
 use Rattle.esr_formats.specs.Ids.{number_of}
@@ -8,7 +8,7 @@ use Rattle.esr_desk.specs.Start.{formats_of, ticket_of}
 use Rattle.esr_finish.specs.Runs.{taken_on, went_not, went_on}
 use Rattle.esr_delete.specs.Planned.{Notes}
 use Rattle.esr_delete.proofs.Numbered.{shard_in}
-use Rattle.esr_delete.proofs.Indexing.{notes_none, has_room, next_more, left_of_draft, index_of, notes_as, notes_more, notes_all, first_next}
+use Rattle.esr_delete.proofs.Indexing.{notes_none, has_room, next_more, left_of_draft, index_of, notes_more, notes_all, first_next}
 use Rattle.esr_delete.proofs.indices.write_indices.Goals as goal
 use Rattle.esr_delete.proofs.indices.write_indices.Goals.{In_ok-left}
 
@@ -56,10 +56,9 @@ write_shard-requires-clause-may g c κs within =
     let d = c.args.draft.now in
     let first = d.first.number in
     let left = map number_of c.in_ok-left.left in
-    let notes = notes_as s old mid (formats_of s) old.read (map number_of c.left.inside.items.items) left first (map pruned_of (take k items)) (ap (map number_of) c.left.view_is) c.loop-shard.invariant.notes in
     index_of s old mid c.args.held.now items d.shards k first c.loop-shard.next.number (root_of d.root) left c.requires.may c.as_slice-shard-items.ensures c.loop-shard-test.true (left_is g (goal.at.write_shard-requires-clause-may g c).In_ok-left)
     c.loop-shard.invariant.next
-    notes
+    c.loop-shard.invariant.notes
     (shard_in items d.shards k c.as_slice-shard-items.ensures c.loop-shard-test.true)
 
 pub loop-shard-preserved : goal.loop-shard-preserved
@@ -74,12 +73,10 @@ loop-shard-preserved g c =
     let item = get_or items k no_shard in
     let first = c.args.draft.now.first.number in
     let before = map pruned_of (take k items) in
-    let left = map number_of c.left.inside.items.items in
-    let own = notes_as s (ticket_of s mid who) (ticket_of s new who) (formats_of s) (ticket_of s mid who).read
-    (map number_of c.in_ok-left.left) left c.loop-shard.next.number (pruned_of item ∷ []) (sym (ap (map number_of) c.left.view_is)) c.in_ok-next.ensures.ok in
+    let left = map number_of c.in_ok-left.left in
     let more = next pruned_of items k item c.loop-shard-test.true (item_is items k no_shard c.loop-shard-test.true) in
     record {
-      notes = notes_more s (ticket_of s old who) (ticket_of s mid who) (ticket_of s new who) items k first c.loop-shard.next.number left item more c.loop-shard.invariant.next c.loop-shard.invariant.notes own;
+      notes = notes_more s (ticket_of s old who) (ticket_of s mid who) (ticket_of s new who) items k first c.loop-shard.next.number left item more c.loop-shard.invariant.next c.loop-shard.invariant.notes c.in_ok-next.ensures.ok;
       next = c.in_ok-next.ensures.next ∙ ap (λ (n : ℕ). next_after n (pruned_of item)) c.loop-shard.invariant.next ∙ next_more first before (pruned_of item) ∙ ap (λ (ps : List PrunedShard). first + kept_count ps) (sym more);
       tells = c.in_ok-next.ensures.tells;
       went = went_on s old mid new who c.loop-shard.invariant.went c.write_shard.ensures.went;
@@ -99,9 +96,9 @@ returns-clause-ok g c =
     let new = ticket_of s (g.Q.Desk.seen c.loop-shard.desk) who in
     let d = c.args.draft.now in
     let items = c.as_slice-shard-items.result.now in
-    let left = map number_of c.left.inside.items.items in
+    let left = map number_of c.in_ok-left.left in
     let whole : map pruned_of (take c.loop-shard.shard-index items) ≡ map pruned_of d.shards = all pruned_of items c.loop-shard.shard-index c.loop-shard-test.false ∙ ap (map pruned_of) c.as_slice-shard-items.ensures in
-    notes_all s old new c.args.held.now (map pruned_of d.shards) d.first.number (root_of d.root) left c.requires.may (ap (map number_of) c.left.view_is ∙ left_is g (goal.at.returns-clause-ok g c).In_ok-left)
+    notes_all s old new c.args.held.now (map pruned_of d.shards) d.first.number (root_of d.root) left c.requires.may (left_is g (goal.at.returns-clause-ok g c).In_ok-left)
     (subst (λ (ps : List PrunedShard). Notes s old new (pruned_blobs (formats_of s) old.read left d.first.number ps)) whole c.loop-shard.invariant.notes)
 
 pub write_shard-requires-clause-mine : goal.write_shard-requires-clause-mine

@@ -16,7 +16,7 @@ invariant-loop-shard g l =
     let now = g.Q.Desk.seen l.desk in
     let before = map pruned_of (take l.shard-index l.shard-items) in
     record {
-      notes : Notes s (ticket_of s old l.ticket) (ticket_of s now l.ticket) (pruned_blobs (formats_of s) (ticket_of s old l.ticket).read (map number_of l.left-inside.items.items) l.draft.first.number before);
+      notes : Notes s (ticket_of s old l.ticket) (ticket_of s now l.ticket) (pruned_blobs (formats_of s) (ticket_of s old l.ticket).read (map number_of l.left) l.draft.first.number before);
       next : l.next.number ≡ l.draft.first.number + kept_count before;
       tells : TellsAll s now l.ticket;
       went : Went s old now l.ticket;

@@ -44,7 +44,6 @@ next_tells g c =
     let seen = g.Q.Desk.seen in
     let who = c.args.ticket in
     let inv = c.loop-left.invariant in
-    let t = ticket_of s (seen c.args.desk.now) who in
     let from : option_copied c.last_name-last.result ≡ last_text (ticket_of s (seen c.loop-left.desk) who).listed =
     c.last_name-last.ensures ∙ ap (λ (l : List Listed). last_text (page_of l)) c.as_slice.ensures ∙ c.loop-left.invariant.last ∙ sym (ap (λ u. last_text u.listed) inv.is) in
     list_tells s (seen c.loop-left.desk) (seen c.list.new.self) who (option_copied c.last_name-last.result) (page_of c.in_ok-next.next) c.requires.mine.some inv.tells (ap (λ u. u.whole) inv.is) from

@@ -63,3 +63,13 @@ returns-else-is_late-clause-stopped g c =
     drop_halted c.laws.ensures g.Q.Desk.start (g.Q.Desk.seen c.args.desk.now) (g.Q.Desk.seen c.end_drop.new.self) c.args.unit.now.ready.ticket
     (is_drop g (goal.at.returns-else-is_late-clause-stopped g c).In-Err) c.in-Err.refusal c.in-Err.ensures.step c.in-Err.ensures.kept
     (sym c.is_late.ensures ∙ c.if-is_late.false)
+
+pub returns-else-is_late-clause-grew : goal.returns-else-is_late-clause-grew
+returns-else-is_late-clause-grew g c =
+    outcome_grew_by g.Q.Desk.start (g.Q.Desk.seen c.args.desk.now) (g.Q.Desk.seen c.end_drop.new.self) c.args.unit.now.ready.ticket DroppedStep (λ x. HasEnded) c.end_drop.result c.end_drop.ensures.step
+
+-- ---- it was taken away
+
+pub returns-in-Ok-clause-grew : goal.returns-in-Ok-clause-grew
+returns-in-Ok-clause-grew g c =
+    outcome_grew_by g.Q.Desk.start (g.Q.Desk.seen c.args.desk.now) (g.Q.Desk.seen c.end_drop.new.self) c.args.unit.now.ready.ticket DroppedStep (λ x. HasEnded) c.end_drop.result c.end_drop.ensures.step

@@ -1,6 +1,6 @@
 use Rattle.esr_core.specs.Entry.{BeginStep, CommitStep}
 use Rattle.esr_formats.specs.Names.{name_of}
-use Rattle.esr_desk.specs.Start.{ticket_of}
+use Rattle.esr_desk.specs.Start.{ticket_of, told_bytes}
 use Rattle.esr_desk.specs.Outcome.{commit_reply, Stepped}
 use Rattle.esr_desk.specs.Grew.{outcome_grew_by}
 use Rattle.esr_unit.specs.declared.trouble.Trouble.TheVariants.{Step}
@@ -9,12 +9,14 @@ use Rattle.esr_finish.specs.Refused.{IsPutRefused}
 use Rattle.esr_finish.specs.Runs.{taken_on, went_on, worked_not}
 use Rattle.esr_finish.proofs.Runs.{worked_to, begin_went, commit_went}
 use Rattle.esr_finish.proofs.Stopping.{other_than_latest, writing_refused}
+use Rattle.esr_finish.proofs.Writing.{wrote_one}
 use Rattle.std.proofs.Common.{◌≡◌, inl, Option, refl, sym, ap, ◌∙◌, subst}
 use Rattle.std.specs.Io.KnownBytes.{append_known}
+use Rattle.std.specs.Result.{is_err}
 use Rattle.esr_model.specs.Values.{Bytes}
 use Rattle.esr_core.specs.World.{Ticket}
 use Rattle.esr_desk.specs.Conditions.{CanCommit}
-use Rattle.esr_unit.specs.Objects.{on_ok, told_append}
+use Rattle.esr_unit.specs.Objects.{is_faulty, never_err, on_ok, told_append}
 use Rattle.esr_names.specs.declared.blob.BlobName.{BlobName as CodeName}
 use Rattle.esr_model.specs.Names.{BlobName}
 use Rattle.esr_desk.specs.Once.{IsFresh}
@@ -32,6 +34,16 @@ pub returns-in_err-named-clause-went : goal.returns-in_err-named-clause-went
 returns-in_err-named-clause-went g c =
     let seen = g.Q.Desk.seen in
     begin_went g.Q.Desk.start (seen c.args.desk.now) (seen c.begin.new.self) c.args.ticket (name_of c.args.name) c.begin.result c.begin.ensures.step c.begin.ensures.own
+
+pub returns-then-is_err-clause-went : goal.returns-then-is_err-clause-went
+returns-then-is_err-clause-went g c =
+    let seen = g.Q.Desk.seen in
+    begin_went g.Q.Desk.start (seen c.args.desk.now) (seen c.begin.new.self) c.args.ticket (name_of c.args.name) c.begin.result c.begin.ensures.step c.begin.ensures.own
+
+pub returns-then-is_err-clause-refused : goal.returns-then-is_err-clause-refused
+returns-then-is_err-clause-refused g c =
+    is_faulty g.Q.Desk.start (g.Q.Stage.Counted.faults c.in_ok-named.named.stage) (g.Q.Stage.Counted.faults c.write.new.self) (is_err c.write.result) c.write.ensures.cause
+    (λ quiet. never_err c.write.result (c.write.ensures.sure_ok (c.in_ok-named.ensures.sure quiet))) (sym c.is_err.ensures.value ∙ c.if-is_err.true)
 
 pub returns-in_err-commit-clause-went : goal.returns-in_err-commit-clause-went
 returns-in_err-commit-clause-went g c =
@@ -79,6 +91,18 @@ commit-requires-clause-new g c =
     let who = c.args.ticket in
     subst (λ (n : CodeName). IsFresh s mid who (CommitStep (name_of n))) (sym c.in_ok-named.ensures.name)
     (commit_fresh s (g.Q.Desk.seen c.args.desk.now) mid who (name_of c.args.name) c.requires.mine.some c.requires.tells c.requires.new c.in_ok-named.ensures.step)
+
+pub returns-clause-ok : goal.returns-clause-ok
+returns-clause-ok g c =
+    let s = g.Q.Desk.start in
+    let mid = ticket_of s (g.Q.Desk.seen c.begin.new.self) c.args.ticket in
+    let done = c.in_ok-commit.field-0 in
+    let holds : g.Q.Stage.Stage.contents c.write.new.self ≡ told_bytes s c.args.bytes.now =
+    on_ok c.write.result _ (sym c.is_err.ensures.value ∙ c.if-is_err.false) c.write.ensures.written ∙ ap (λ (o : Option Bytes). append_known o c.args.bytes.now) c.in_ok-named.ensures.contents ∙ told_append s c.args.bytes.now in
+    wrote_one s (name_of c.args.name) c.args.bytes.now done (ticket_of s (g.Q.Desk.seen c.args.desk.now) c.args.ticket) (ticket_of s (g.Q.Desk.seen c.commit.new.self) c.args.ticket)
+    (c.in_ok-commit.ensures.own ∙ ap (λ (n : BlobName). committed_by n (g.Q.Stage.Stage.contents c.write.new.self) done mid) (ap name_of c.in_ok-named.ensures.name)
+    ∙ ap (λ (o : Option Bytes). committed_by (name_of c.args.name) o done mid) holds
+    ∙ ap (committed_by (name_of c.args.name) (told_bytes s c.args.bytes.now) done) c.in_ok-named.ensures.own)
 
 pub returns-clause-tells : goal.returns-clause-tells
 returns-clause-tells g c =

@@ -10,7 +10,7 @@ use Rattle.esr_finish.specs.Ticket.{Wrote, IsUnnoted}
 use Rattle.esr_finish.proofs.Blobs.{root_text_is}
 use Rattle.esr_unit.specs.declared.trouble.Trouble.TheVariants.{Step}
 use Rattle.esr_finish.specs.Refused.{IsPutRefused}
-use Rattle.esr_finish.specs.Runs.{taken_on}
+use Rattle.esr_finish.specs.Runs.{taken_on, went_on}
 use Rattle.esr_finish.proofs.Runs.{raise_went}
 use Rattle.esr_finish.proofs.Stopping.{writing_refused}
 use Rattle.esr_finish.proofs.Writing.{root_commits}
@@ -38,7 +38,6 @@ returns-clause-ok g c =
     let s = g.Q.Desk.start in
     let root = root_of c.args.root.now in
     let n = c.in_ok-generation.generation in
-    let t0 = ticket_of s (g.Q.Desk.seen c.args.desk.now) c.args.ticket in
     let t1 = ticket_of s (g.Q.Desk.seen c.raise.new.self) c.args.ticket in
     let t2 = ticket_of s (g.Q.Desk.seen c.put.new.desk) c.args.ticket in
     let text = root_text_is s n root c.as_slice.result.now (c.as_slice.ensures ∙ c.in_ok-text.ensures.text) in
@@ -78,3 +77,23 @@ returns-in_err-put-clause-calls g c = c.put.ensures.calls ∙ c.raise.ensures.ca
 
 pub returns-clause-calls : goal.returns-clause-calls
 returns-clause-calls g c = c.put.ensures.calls ∙ c.raise.ensures.calls
+
+-- ---- how far it went
+
+pub returns-in_err-text-clause-went : goal.returns-in_err-text-clause-went
+returns-in_err-text-clause-went g c =
+    raise_went g.Q.Desk.start (g.Q.Desk.seen c.args.desk.now) (g.Q.Desk.seen c.raise.new.self) c.args.ticket c.raise.result c.raise.ensures.step c.raise.ensures.own c.raise.ensures.kept
+
+pub returns-in_err-put-clause-went : goal.returns-in_err-put-clause-went
+returns-in_err-put-clause-went g c =
+    let s = g.Q.Desk.start in
+    let old = g.Q.Desk.seen c.args.desk.now in
+    let mid = g.Q.Desk.seen c.raise.new.self in
+    went_on s old mid (g.Q.Desk.seen c.put.new.desk) c.args.ticket (raise_went s old mid c.args.ticket c.raise.result c.raise.ensures.step c.raise.ensures.own c.raise.ensures.kept) c.put.ensures.went
+
+pub returns-clause-went : goal.returns-clause-went
+returns-clause-went g c =
+    let s = g.Q.Desk.start in
+    let old = g.Q.Desk.seen c.args.desk.now in
+    let mid = g.Q.Desk.seen c.raise.new.self in
+    went_on s old mid (g.Q.Desk.seen c.put.new.desk) c.args.ticket (raise_went s old mid c.args.ticket c.raise.result c.raise.ensures.step c.raise.ensures.own c.raise.ensures.kept) c.put.ensures.went

@@ -74,6 +74,14 @@ pub returns-in-Err-clause-went : goal.returns-in-Err-clause-went
 returns-in-Err-clause-went g c =
     begin_went g.Q.Desk.start (g.Q.Desk.seen c.args.desk.now) (g.Q.Desk.seen c.begin.new.self) c.args.ticket Latest c.begin.result c.begin.ensures.step c.begin.ensures.own
 
+pub returns-in-Err-Refused-DepotFault-clause-went : goal.returns-in-Err-Refused-DepotFault-clause-went
+returns-in-Err-Refused-DepotFault-clause-went g c =
+    begin_went g.Q.Desk.start (g.Q.Desk.seen c.args.desk.now) (g.Q.Desk.seen c.begin.new.self) c.args.ticket Latest c.begin.result c.begin.ensures.step c.begin.ensures.own
+
+pub returns-then-is_err-clause-went : goal.returns-then-is_err-clause-went
+returns-then-is_err-clause-went g c =
+    begin_went g.Q.Desk.start (g.Q.Desk.seen c.args.desk.now) (g.Q.Desk.seen c.begin.new.self) c.args.ticket Latest c.begin.result c.begin.ensures.step c.begin.ensures.own
+
 pub returns-in-Ok-latest-clause-went : goal.returns-in-Ok-latest-clause-went
 returns-in-Ok-latest-clause-went g c =
     let s = g.Q.Desk.start in

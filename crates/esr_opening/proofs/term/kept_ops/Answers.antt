@@ -2,7 +2,7 @@ use Rattle.std.proofs.Common.{◌+◌, List, sym, ap, ◌∙◌, subst}
 use Rattle.esr_record.specs.declared.op.RecordOp.{RecordOp}
 use Rattle.esr_record.specs.Op.{AreOps, last_op}
 use Rattle.esr_opening.specs.Terms.{kept_ops}
-use Rattle.esr_opening.proofs.Keeping.{AreKept, none_kept, may_keep, next_fits, kept_more, passed_over, all_kept}
+use Rattle.esr_opening.proofs.Keeping.{AreKept, none_kept, may_keep, kept_more, passed_over, all_kept}
 use Rattle.esr_opening.proofs.term.kept_ops.Goals as goal
 use Rattle.esr_opening.proofs.term.kept_ops.Goals.{then-is_delete+in_ok-work+in_ok-push, else-is_delete}
 

@@ -24,7 +24,8 @@ carry_step-answer-requires-clause-other g c κs within = sym c.is_wait.ensures �
 
 pub returns-then-is_wait-clause-made : goal.returns-then-is_wait-clause-made
 returns-then-is_wait-clause-made g c =
-    subst (λ (i : Item). LineMade g.K.Told.start (steps_of_item c.args.moment i) c.args.desk c.wait.result.0 c.wait.result.1) (sym (wait_is c.args.item.now (sym c.is_wait.ensures ∙ c.if-is_wait.true))) c.wait.ensures.made
+    subst (λ (i : Item). LineMade g.Q.Desk.start (steps_of_item c.args.moment i) (g.Q.Desk.seen c.args.desk) (g.Q.Desk.seen c.wait.result.0) c.wait.result.1)
+    (sym (wait_is c.args.item.now (sym c.is_wait.ensures ∙ c.if-is_wait.true))) c.wait.ensures.made
 
 pub returns-then-is_wait-clause-checked : goal.returns-then-is_wait-clause-checked
 returns-then-is_wait-clause-checked g c check = absurd (no_check c.args.item.now (wait_is c.args.item.now (sym c.is_wait.ensures ∙ c.if-is_wait.true)) check)
@@ -34,16 +35,17 @@ returns-then-is_wait-clause-ended g c wait = c.wait.ensures.ended
 
 pub returns-then-is_wait-clause-takes : goal.returns-then-is_wait-clause-takes
 returns-then-is_wait-clause-takes g c =
-    subst (λ (i : Item). idle_takes c.wait.result.0 ≤ idle_takes c.args.desk + waits_in c.args.crew.workers i) (sym (wait_is c.args.item.now (sym c.is_wait.ensures ∙ c.if-is_wait.true))) c.wait.ensures.takes
+    subst (λ (i : Item). idle_takes (g.Q.Desk.seen c.wait.result.0) ≤ idle_takes (g.Q.Desk.seen c.args.desk) + waits_in c.args.crew.workers i) (sym (wait_is c.args.item.now (sym c.is_wait.ensures ∙ c.if-is_wait.true))) c.wait.ensures.takes
 
 pub returns-then-is_wait-clause-elects : goal.returns-then-is_wait-clause-elects
-returns-then-is_wait-clause-elects g c = subst (λ (i : Item). LineElects c.args.crew.elections i c.args.desk c.wait.result.0 c.wait.result.1) (sym (wait_is c.args.item.now (sym c.is_wait.ensures ∙ c.if-is_wait.true))) c.wait.ensures.elects
+returns-then-is_wait-clause-elects g c =
+    subst (λ (i : Item). LineElects c.args.crew.elections i (g.Q.Desk.seen c.args.desk) (g.Q.Desk.seen c.wait.result.0) c.wait.result.1) (sym (wait_is c.args.item.now (sym c.is_wait.ensures ∙ c.if-is_wait.true))) c.wait.ensures.elects
 
 pub returns-then-is_wait-clause-begun : goal.returns-then-is_wait-clause-begun
 returns-then-is_wait-clause-begun g c verify = absurd (no_verify c.args.item.now (wait_is c.args.item.now (sym c.is_wait.ensures ∙ c.if-is_wait.true)) verify)
 
 pub returns-then-is_wait-clause-only : goal.returns-then-is_wait-clause-only
-returns-then-is_wait-clause-only g c = subst (λ (i : Item). AddsOnly i c.args.desk c.wait.result.0) (sym (wait_is c.args.item.now (sym c.is_wait.ensures ∙ c.if-is_wait.true))) c.wait.ensures.only
+returns-then-is_wait-clause-only g c = subst (λ (i : Item). AddsOnly i (g.Q.Desk.seen c.args.desk) (g.Q.Desk.seen c.wait.result.0)) (sym (wait_is c.args.item.now (sym c.is_wait.ensures ∙ c.if-is_wait.true))) c.wait.ensures.only
 
 pub returns-then-is_wait-clause-verified : goal.returns-then-is_wait-clause-verified
 returns-then-is_wait-clause-verified g c checks asks may = c.wait.ensures.verified checks may
@@ -53,8 +55,9 @@ returns-clause-ended g c wait = absurd (no_wait c.args.item.now (sym c.is_wait.e
 
 pub returns-clause-takes : goal.returns-clause-takes
 returns-clause-takes g c =
-    let same : idle_takes c.carry_step-answer.new.desk ≡ idle_takes c.args.desk = c.carry_step-answer.ensures.takes in
+    let same : idle_takes (g.Q.Desk.seen c.carry_step-answer.new.desk) ≡ idle_takes (g.Q.Desk.seen c.args.desk) = c.carry_step-answer.ensures.takes in
     omega (arith, same)
 
 pub returns-clause-elects : goal.returns-clause-elects
-returns-clause-elects g c = other_elects c.args.crew.elections c.args.item.now c.args.desk c.carry_step-answer.new.desk c.carry_step-answer.result (sym c.is_wait.ensures ∙ c.if-is_wait.false) c.carry_step-answer.ensures.elects
+returns-clause-elects g c =
+    other_elects c.args.crew.elections c.args.item.now (g.Q.Desk.seen c.args.desk) (g.Q.Desk.seen c.carry_step-answer.new.desk) c.carry_step-answer.result (sym c.is_wait.ensures ∙ c.if-is_wait.false) c.carry_step-answer.ensures.elects

@@ -10,10 +10,10 @@ use Rattle.esr_run.proofs.carry.carry_lines.Given as goal
 abbrev pub invariant-loop-left : goal.invariant-loop-left
 invariant-loop-left g l =
     record {
-      front : Front g.K.Told.start l.moment l.owed l.left l.lines l.fn.desk l.desk;
+      front : Front g.Q.Desk.start l.moment l.owed l.left l.lines (g.Q.Desk.seen l.fn.desk) (g.Q.Desk.seen l.desk);
       good : first_bad l.left ≡ None;
-      may : MayVerify g.K.Told.start l.workers (asks_check l.lines) l.desk;
-      takes : idle_takes l.desk + waits_of l.workers l.left ≤ idle_takes l.fn.desk + waits_of l.workers l.lines;
+      may : MayVerify g.Q.Desk.start l.workers (asks_check l.lines) (g.Q.Desk.seen l.desk);
+      takes : idle_takes (g.Q.Desk.seen l.desk) + waits_of l.workers l.left ≤ idle_takes (g.Q.Desk.seen l.fn.desk) + waits_of l.workers l.lines;
       fits : l.owed + length l.left ≤ length l.lines;
       small : length l.lines < 2 ^ 64;
     }

@@ -1,6 +1,8 @@
 use Rattle.std.proofs.Common.{◌⊎◌, List, [], OnOk, sym, subst}
+use Rattle.esr_core.specs.Entry.{Moment}
 use Rattle.esr_script.specs.declared.item.ScriptLine.{ScriptLine}
-use Rattle.esr_run.specs.Made.{HasFallen, AreDone}
+use Rattle.esr_complete.specs.Lines.{steps_of}
+use Rattle.esr_run.specs.Made.{MadeFirst, HasFallen, AreDone}
 use Rattle.esr_run.proofs.Making.{apart_first, done_on}
 use Rattle.esr_run.proofs.Falling.{done_fallen}
 use Rattle.esr_run.specs.Checked.{asks_check}
@@ -22,7 +24,19 @@ pub carry-desk-requires-clause-waits : goal.carry-desk-requires-clause-waits
 carry-desk-requires-clause-waits g c κs within = c.requires.waits
 
 pub carry-desk-requires-clause-may : goal.carry-desk-requires-clause-may
-carry-desk-requires-clause-may g c κs within = begun_may g.K.Told.start c.args.asked.now.workers _ c.new-desk.result c.new-desk.ensures c.requires.nobody
+carry-desk-requires-clause-may g c κs within = begun_may g.K.Told.start c.args.asked.now.workers (asks_check c.as_slice-lines.result.now) c.new-desk.result c.new-desk.ensures c.requires.nobody
+
+pub carry-desk-requires-clause-numbered : goal.carry-desk-requires-clause-numbered
+carry-desk-requires-clause-numbered g c κs within = c.requires.numbered
+
+pub carry-desk-requires-clause-earlier : goal.carry-desk-requires-clause-earlier
+carry-desk-requires-clause-earlier g c κs within = c.requires.earlier
+
+pub returns-clause-made : goal.returns-clause-made
+returns-clause-made g c =
+    subst (λ (lines : List ScriptLine). MadeFirst g.K.Told.start (steps_of c.args.host.now.moment lines) [] c.into_parts-repo.result.0) c.as_slice-lines.ensures
+    (subst (λ (new : List Moment). MadeFirst g.K.Told.start (steps_of c.args.host.now.moment c.as_slice-lines.result.now) [] new) (sym c.into_parts-repo.ensures.repo)
+    (subst (λ (old : List Moment). MadeFirst g.K.Told.start (steps_of c.args.host.now.moment c.as_slice-lines.result.now) old c.carry-desk.result.0) c.new-desk.ensures c.carry-desk.ensures.made))
 
 pub returns-clause-whole : goal.returns-clause-whole
 returns-clause-whole g c =

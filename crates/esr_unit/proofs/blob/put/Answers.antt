@@ -1,12 +1,14 @@
-use Rattle.std.proofs.Common.{◌≡◌, List, Option, Ok, sym, ap, ◌∙◌, subst}
+use Rattle.std.proofs.Common.{◌≡◌, inl, List, Option, Ok, sym, ap, ◌∙◌, subst}
 use Rattle.std.specs.Result.{is_err}
 use Rattle.std.specs.Io.KnownBytes.{append_known}
 use Rattle.esr_names.specs.declared.blob.BlobName.{BlobName as CodeName}
 use Rattle.esr_model.specs.Names.{BlobName}
 use Rattle.esr_model.specs.Values.{Bytes}
+use Rattle.esr_core.specs.World.{Ticket}
 use Rattle.esr_core.specs.Entry.{BeginStep, CommitStep, WasBegun, Moment}
 use Rattle.esr_core.specs.Allowed.{IsMetadata}
 use Rattle.esr_formats.specs.Names.{name_of}
+use Rattle.esr_desk.specs.Conditions.{CanCommit}
 use Rattle.esr_desk.specs.Start.{ticket_of, told_bytes}
 use Rattle.esr_desk.specs.Once.{IsFresh}
 use Rattle.esr_desk.specs.Outcome.{Stepped, commit_reply}
@@ -127,3 +129,20 @@ pub returns-clause-grew : goal.returns-clause-grew
 returns-clause-grew g c =
     let new = g.Q.Desk.seen c.commit.new.self in
     begun_grew g (goal.at.returns-clause-grew g c).In_ok-named new (outcome_grew_by g.Q.Desk.start (g.Q.Desk.seen c.begin.new.self) new c.args.ticket (CommitStep (name_of c.in_ok-named.named.name)) commit_reply c.commit.result c.commit.ensures.step)
+
+-- ---- what the steps ask for
+
+pub begin-requires-clause-may : goal.begin-requires-clause-may
+begin-requires-clause-may g c = inl (c.args.bytes.now, c.requires.may)
+
+pub commit-requires-clause-may : goal.commit-requires-clause-may
+commit-requires-clause-may g c =
+    let s = g.Q.Desk.start in
+    let who = c.args.ticket in
+    let told = c.args.bytes.now in
+    let named = c.in_ok-named.named in
+    let t0 = ticket_of s (g.Q.Desk.seen c.args.desk.now) who in (
+      told,
+      on_ok c.write.result _ (sym c.is_err.ensures.value ∙ c.if-is_err.false) c.write.ensures.written ∙ ap (λ (o : Option Bytes). append_known o c.args.bytes.now) c.in_ok-named.ensures.contents ∙ told_append s c.args.bytes.now,
+      subst (λ (t : Ticket). CanCommit s t (name_of named.name) told) (sym c.in_ok-named.ensures.own) (subst (λ (n : CodeName). CanCommit s t0 (name_of n) told) (sym c.in_ok-named.ensures.name) c.requires.may),
+    )

@@ -64,6 +64,27 @@ returns-in-Err-Source-clause-trouble g c = (
   tt,
 )
 
+pub returns-in-Ok-false-clause-went : goal.returns-in-Ok-false-clause-went
+returns-in-Ok-false-clause-went g c =
+    let s = g.Q.Desk.start in
+    let old = g.Q.Desk.seen c.args.desk.now in
+    let mid = g.Q.Desk.seen c.begin.new.self in
+    went_same s old mid c.args.job.now.ticket (stepped_grew_by s old mid c.args.job.now.ticket (BeginStep (name_of c.args.part.name)) WasBegun c.in_ok-named.ensures.step) c.in_ok-named.ensures.own
+
+pub returns-in-Err-Source-clause-went : goal.returns-in-Err-Source-clause-went
+returns-in-Err-Source-clause-went g c =
+    let s = g.Q.Desk.start in
+    let old = g.Q.Desk.seen c.args.desk.now in
+    let mid = g.Q.Desk.seen c.begin.new.self in
+    went_same s old mid c.args.job.now.ticket (stepped_grew_by s old mid c.args.job.now.ticket (BeginStep (name_of c.args.part.name)) WasBegun c.in_ok-named.ensures.step) c.in_ok-named.ensures.own
+
+pub returns-in-Err-Stage-clause-went : goal.returns-in-Err-Stage-clause-went
+returns-in-Err-Stage-clause-went g c =
+    let s = g.Q.Desk.start in
+    let old = g.Q.Desk.seen c.args.desk.now in
+    let mid = g.Q.Desk.seen c.begin.new.self in
+    went_same s old mid c.args.job.now.ticket (stepped_grew_by s old mid c.args.job.now.ticket (BeginStep (name_of c.args.part.name)) WasBegun c.in_ok-named.ensures.step) c.in_ok-named.ensures.own
+
 pub commit-requires-clause-may : goal.commit-requires-clause-may
 commit-requires-clause-may g c =
     let s = g.Q.Desk.start in

@@ -1,6 +1,5 @@
 use Rattle.std.proofs.Common.{◌≡◌, ℕ, Option, Some, None, option_map, inl, ◌∙◌, sym, ap, subst}
 use Rattle.std.specs.Option.{option_copied}
-use Rattle.esr_shardidx.specs.Indices.{IsShardIndex}
 use Rattle.esr_core.specs.World.{Ticket}
 use Rattle.esr_names.specs.declared.ids.Id.{Id}
 use Rattle.esr_formats.specs.Ids.{number_of}
@@ -46,7 +45,7 @@ returns-in-Some-list-clause-trouble g c =
     let base : new.base ≡ Some c.in-Some.generation.number =
     ap (λ (t : Ticket). t.base) has.is ∙ c.requires.base ∙ ap (λ (o : Option Id). option_map number_of o) c.in-Some.is in (
       was_ahead s log who i k c.in-Some.generation.number c.args.uuid.number index (read_at s old new i k (shard_index_of index) has c.requires.at) base c.in_ok-index.ensures.found has.based
-          (subst IsShardIndex c.index.view_is c.index.invariant)
+          c.files.ensures.whole
           (inl (list_ahead new c.args.uuid index c.in-Some-list.field-0.now (ap (λ (t : Ticket). t.uuid) has.is ∙ c.requires.uuid) (sym c.list.ensures ∙ ap option_copied c.in-Some-list.is))),
       tt,
     )
@@ -64,6 +63,6 @@ returns-in-None-list-clause-based g c =
           let both : ◌≡◌ {A = Option ℕ} None (Some c.in-Some.generation.number) =
           sym none ∙ ap (λ (t : Ticket). t.base) has.is ∙ c.requires.base ∙ ap (λ (o : Option Id). option_map number_of o) c.in-Some.is in
           absurd cc;
-      whole = subst IsShardIndex c.index.view_is c.index.invariant;
+      whole = c.files.ensures.whole;
       unlisted = sym c.list.ensures ∙ ap option_copied c.in-None-list.is;
     }

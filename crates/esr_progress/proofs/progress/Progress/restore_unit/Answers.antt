@@ -9,10 +9,11 @@ use Rattle.esr_ops.specs.declared.unit.Copied.{Copied}
 use Rattle.esr_ops.specs.Plan.{RestorePlan}
 use Rattle.esr_progress.specs.Choice.{NoneUnread, given_restore}
 use Rattle.esr_progress.proofs.Unread.{none_is_unread, unread_in, restore_there, unread_within, restore_numbers, restore_is}
+use Rattle.esr_progress.proofs.Bases.{none_based}
 use Rattle.esr_progress.proofs.progress.Progress.restore_unit.Goals as goal
 
-pub returns-in_default : goal.returns-in_default
-returns-in_default c w term is =
+pub returns-in_default-clause-unit : goal.returns-in_default-clause-unit
+returns-in_default-clause-unit c w term is =
     none_is_unread c.self.inside.ops.items c.self.inside.deletes.items c.self.inside.completed.items c.self.inside.tickets c.self.inside.next_op c.self.inside.restores.items c.args.self.now c.self.view_is c.self.invariant w is.plan
     (subst (λ (es : List (ℕ × RestorePlan)). NoneUnread es (length es)) c.deref.ensures.value c.in_default.ensures)
 
@@ -42,8 +43,8 @@ with_reader-requires-clause-numbers c =
     (restore_there c.self.inside.restores.items c.deref.result.now c.deref.ensures.value c.in-Some.at c.in-Some.i c.in-Some.ensures c.index-restore.result.now c.index-restore.ensures)
     c.shard-shard.result c.next-ticket.result c.in_ok-restores.restores.items c.in_ok-restores.ensures
 
-pub returns : goal.returns
-returns c w term is =
+pub returns-clause-unit : goal.returns-clause-unit
+returns-clause-unit c w term is =
     let copy : Copied = record { safe = to_z w64 (of_z w64 c.args.safe); root = c.in_ok-try_clone.field-0; base = None } in
     let given_is = subst (λ (es : List (ℕ × RestorePlan)). IfSome (slice_get es c.in-Some.at) (λ (x : ℕ × RestorePlan). c.in_ok-restores.restores.items ≡ set es c.in-Some.at (given_restore c.shard-shard.result c.next-ticket.result x)))
     c.deref-2.ensures.value c.in_ok-restores.ensures in
@@ -54,3 +55,6 @@ returns c w term is =
     c.rule.ensures c.next-ticket.result c.next-ticket.ensures c.number.result c.number.ensures c.in_ok-work.field-0 c.shard-shard.result copy c.shard-shard.ensures c.in_ok-work.ensures
     (root_of c.args.root.now) (count_of c.args.safe) is.safe_is is.root_is
     (ap count_of (to_z-of_z w64 c.args.safe c.ranges.safe)) (ap root_of c.in_ok-try_clone.ensures) c.in_ok-restores.restores.items given_is c.in_ok-with_reader.field-0 c.in_ok-with_reader.ensures
+
+pub returns-clause-base : goal.returns-clause-base
+returns-clause-base c = none_based c.in_ok-work.field-0

@@ -10,4 +10,4 @@ next_unit-requires c = few_tickets c.self.invariant (fits c.self.inside.given _ 
 pub invariant_of-self : goal.invariant_of-self
 invariant_of-self c =
     let safe = count_of (to_z w64 (of_z w64 c.self.inside.safe)) in
-    renewed (gave c.self.invariant c.in-Some.list safe c.in-Some.unit (subst (NextUnit _) c.in-Some.is (c.in_ok-next.ensures _ (given_in c.self.invariant safe)))) c.renew.new.list c.renew.ensures
+    renewed (gave c.self.invariant c.in-Some.list safe c.in-Some.unit (subst (NextUnit _) c.in-Some.is (c.in_ok-next.ensures.unit _ (given_in c.self.invariant safe)))) c.renew.new.list c.renew.ensures

@@ -1,7 +1,7 @@
--- What no rule of accepting gives.
-use Rattle.std.proofs.Common.{◌≡◌, false, true≢false}
-use Rattle.esr_core.specs.Entry.{Asked, Snapshot, Clone, DeleteSnapshots, Restore, Cleanup, Refusal, CleanupRunning, NameInUse, TooMany, NoSnapshot, NoIndex, BeingDeleted, CloneRunning, RestoreRunning, BusyOp}
-use Rattle.esr_quiet.specs.Refusals.{IsByRule, is_rule}
+-- Which refusals the rules of commands give, and which none of them gives.
+use Rattle.std.proofs.Common.{◌≡◌, ℕ, true, false, true≢false, sym}
+use Rattle.esr_core.specs.Entry.{Asked, Snapshot, Clone, DeleteSnapshots, Restore, Cleanup, is_recorded, Refusal, CleanupRunning, NameInUse, TooMany, NoSnapshot, NoIndex, BeingDeleted, CloneRunning, RestoreRunning, BusyOp}
+use Rattle.esr_core.specs.Refusing.{IsByRule, is_rule}
 
 -- a rule's refusals first, so that each clause of a command goes by the others
 pub never_rule : (command : Asked) (refusal : Refusal) → is_rule refusal ≡ false → IsByRule command refusal → ⊥
@@ -19,3 +19,8 @@ never_rule (Restore name place) refusal none rule = rule
 never_rule (Clone source name names moment taken) refusal none rule = rule
 never_rule (DeleteSnapshots names) refusal none rule = rule
 never_rule Cleanup refusal none rule = rule
+
+-- each command that is recorded is refused while a cleanup runs
+pub of_cleanup : (command : Asked) (op : ℕ) → is_recorded command ≡ true → IsByRule command (CleanupRunning op)
+of_cleanup (Restore name place) op recorded = absurd (true≢false (sym recorded))
+of_cleanup command op recorded = tt
