@@ -9,7 +9,8 @@ ghost use Rattle.esr_accept.specs.Accepting.{IsCleanupRuledOn, AcceptingCleanup}
 
 use crate::snapshot::open_cleanup;
 use esr_ops::{OpenDelete, OpenOp, Refusal};
-use esr_progress::{Progress, copy_deletes, copy_ops, lowest_open};
+use esr_progress::{Progress, lowest_open};
+use esr_seq::copies_of;
 use std::alloc::{AllocError, Global};
 
 /// The list with a cleanup more, as the next op, and its number. It waits for nothing: an open op or a ticket that is out, those
@@ -40,8 +41,8 @@ fn with_cleanup(progress: &Progress, alloc: Global) -> Result<Progress, AllocErr
     ensures { IfOk result (λ p. (w : World) → IsPlanOf w progress.now → IsPlanOf (cleanup_opened w) p) }
 {
     let list = progress.lists();
-    let ops = copy_ops(alloc, list.ops)?;
-    let mut deletes = copy_deletes(alloc, list.deletes)?;
+    let ops = copies_of(alloc, list.ops)?;
+    let mut deletes = copies_of(alloc, list.deletes)?;
     deletes.push(OpenDelete::cleanup(alloc, list.next_op))?;
     progress.with_lists(alloc, ops, deletes, list.next_op + 1)
 }

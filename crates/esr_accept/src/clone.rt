@@ -18,12 +18,12 @@ ghost use Rattle.esr_accept.specs.Accepting.{Clonable};
 use crate::restore::{deleting, listed};
 use crate::snapshot::{LIMIT, is_full, name_user, open_cleanup, shards};
 use esr_formats::making_can_be_written;
-use esr_names::{Id, IndexName, IndexNames, IndexRef, IndexRefs, SnapName, indices_copy};
+use esr_names::{Id, IndexName, IndexNames, IndexRef, IndexRefs, SnapName};
 use esr_ops::{OpenOp, Refusal, names};
 use esr_progress::Progress;
 use esr_record::Making;
 use esr_root::{RootData, RootIndex};
-use esr_seq::{Seq, Text};
+use esr_seq::{Seq, Text, TryClone};
 use std::alloc::{AllocError, Global};
 
 /// The listed snapshot of a name, of which these indices may be cloned under another name. The first rule that refuses it
@@ -79,7 +79,7 @@ pub fn open_clone(
         → OpTexts (formats known told) (cloned_op w name.now moment (record { source = source.number; indices = map ref_of_code indices.now }))) }
 {
     let making = Making {
-        indices: indices_copy(alloc, indices)?,
+        indices: indices.try_clone(alloc)?,
         moment,
         name: name.try_clone(alloc)?,
         uuid: next,
@@ -98,7 +98,7 @@ pub fn chosen(alloc: Global, all: &IndexRefs, names: &IndexNames) -> Result<Inde
     ensures apart { IfOk result (λ refs. AreApart (map ref_of_code refs)) }
 {
     if takes_all(names) {
-        return indices_copy(alloc, all);
+        return all.try_clone(alloc);
     }
     named(alloc, all.as_slice(), names.as_slice())
 }

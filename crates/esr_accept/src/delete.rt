@@ -16,8 +16,9 @@ ghost use Rattle.esr_accept.specs.Accepting.{IsRuledOn, AcceptingDelete};
 use crate::snapshot::{LIMIT, is_full, name_user, open_cleanup};
 use esr_names::{Id, Ids, SnapName, SnapNames};
 use esr_ops::{OpenDelete, OpenOp, OpenRestore, Refusal, names, push_new};
-use esr_progress::{Progress, Tickets, copy_deletes};
+use esr_progress::{Progress, Tickets};
 use esr_root::{RootData, RootSnap};
+use esr_seq::{TryClone, copies_of};
 use std::alloc::{AllocError, Global};
 
 /// The list after a delete of the snapshots of these names was asked for, and the number of the op that it goes into: one
@@ -174,7 +175,7 @@ fn with_delete(
         uuids.as_slice(),
         list.next_op,
     )?;
-    let mut deletes = copy_deletes(alloc, list.deletes)?;
+    let mut deletes = copies_of(alloc, list.deletes)?;
     deletes.push(OpenDelete::new(list.next_op, uuids))?;
     progress.with_lists(alloc, ops, deletes, list.next_op + 1)
 }

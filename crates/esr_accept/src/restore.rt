@@ -10,11 +10,11 @@ ghost use Rattle.esr_formats.specs.Ids.{number_of};
 ghost use Rattle.esr_accept.specs.Accepting.{Restorable};
 
 use crate::snapshot::{LIMIT, shards, snap_uuid};
-use esr_names::{Id, IndexRefs, SnapName, indices_copy};
+use esr_names::{Id, IndexRefs, SnapName};
 use esr_ops::{OpenDelete, OpenRestore, Refusal};
 use esr_progress::Progress;
 use esr_root::RootData;
-use esr_seq::Text;
+use esr_seq::{Text, TryClone};
 use std::alloc::{AllocError, Global};
 
 /// The listed snapshot of a name, which may be restored. The first rule that refuses it decides.
@@ -88,6 +88,6 @@ fn begin_restore(
     ensures { IfOk result (λ r. r ≡ (number, restore_begun uuid.number place.now (map ref_of_code indices.now))) }
 {
     let shards = shards(alloc, indices.as_slice())?;
-    let copy = indices_copy(alloc, indices)?;
+    let copy = indices.try_clone(alloc)?;
     Ok(OpenRestore::new(number, uuid, place.try_clone(alloc)?, copy, shards))
 }

@@ -21,7 +21,7 @@ use esr_ops::{Accepted, AskedIndex, Command, OpenDelete, OpenOp, OpenShard, Refu
 use esr_progress::Progress;
 use esr_record::Making;
 use esr_root::{RootData, RootIndex, RootSnap};
-use esr_seq::{Seq, Text};
+use esr_seq::{Seq, Text, TryClone};
 use std::alloc::{AllocError, Global};
 
 /// The most ops and deletes that are open at once, and the most restores.

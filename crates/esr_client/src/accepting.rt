@@ -16,6 +16,7 @@ use esr_names::Id;
 use esr_ops::{Accepted, Command, Refusal};
 use esr_progress::Progress;
 use esr_repo::{Renewed, Repo, Told, with_ops};
+use esr_seq::TryClone;
 use std::alloc::Global;
 
 /// A refusal of the list of ops, as an entry tells it; of want of memory none does.

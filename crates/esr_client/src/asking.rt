@@ -16,6 +16,7 @@ use esr_depot::Depot;
 use esr_desk::{Answer, Look, Step, StepRefusal, Unit};
 use esr_ops::Command;
 use esr_repo::{Repo, Told};
+use esr_seq::TryClone;
 use std::alloc::Global;
 
 /// Asks for a snapshot, a delete or a cleanup. It is the op that is answered; a delete may go into one that was open.

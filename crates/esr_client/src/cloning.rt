@@ -19,8 +19,9 @@ use esr_accept::{chosen, clonable, open_clone};
 use esr_depot::Depot;
 use esr_desk::{Answer, CloneAsk, CloneOf, Step, StepRefusal};
 use esr_names::{Id, IndexNames, IndexRefs, SnapName};
-use esr_ops::{Command, Refusal, index_names_copy};
+use esr_ops::{Command, Refusal};
 use esr_repo::{Renewed, Repo, Told, with_ops};
+use esr_seq::TryClone;
 use std::alloc::{AllocError, Global};
 
 /// Copies of the names in the request for a clone: of the snapshot that is copied, of the clone and of the indices.
@@ -34,7 +35,7 @@ fn names_copy(
 {
     let source = ask.source.try_clone(alloc)?;
     let name = ask.name.try_clone(alloc)?;
-    let indices = index_names_copy(alloc, ask.indices)?;
+    let indices = ask.indices.try_clone(alloc)?;
     Ok((source, name, indices))
 }
 

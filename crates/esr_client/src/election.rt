@@ -12,6 +12,7 @@ use esr_desk::{Answer, Step, StepRefusal};
 use esr_names::Id;
 use esr_record::ClusterRecord;
 use esr_repo::{Renewed, Repo, Told, entry_refusal};
+use esr_seq::TryClone;
 use std::alloc::Global;
 
 /// What is kept after an election: ids are those of the new term.

@@ -15,10 +15,10 @@ use esr_accept::{open_restore, restorable};
 use esr_depot::Depot;
 use esr_desk::{AcceptedRestore, Answer, Step, StepRefusal};
 use esr_meta::SnapInfo;
-use esr_names::{Id, IndexRefs, SnapName, indices_copy};
+use esr_names::{Id, IndexRefs, SnapName};
 use esr_ops::Command;
 use esr_repo::{Repo, Told};
-use esr_seq::Text;
+use esr_seq::{Text, TryClone};
 use std::alloc::{AllocError, Global};
 
 /// The step that asks for a restore.
@@ -76,7 +76,7 @@ fn accept_restore<D: Depot, K: Told>(
 {
     repo.rules();
     let indices = indices_of(repo, alloc, uuid)?;
-    let told = indices_copy(alloc, &indices)?;
+    let told = indices.try_clone(alloc)?;
     let progress = open_restore(repo.plan(), alloc, uuid, place, &indices)?;
     let step = asks(alloc, name, place)?;
     let op = repo.next_op();
@@ -105,5 +105,5 @@ pub(crate) fn indices_of<D: Depot, K: Told>(
         unreachable!();
     };
     let _ = &info.name;
-    indices_copy(alloc, &info.indices)
+    info.indices.try_clone(alloc)
 }

@@ -20,10 +20,11 @@ use esr_formats::write_root;
 use esr_names::Ids;
 use esr_newroot::finalized;
 use esr_ops::{ReadyUnit, Work};
-use esr_progress::{Progress, info_copy};
+use esr_progress::Progress;
 use esr_repo::{Repo, Told};
 use esr_results::ShardResults;
 use esr_root::RootData;
+use esr_seq::TryClone;
 use std::alloc::{AllocError, Global};
 
 /// What is given, as an entry tells it.
@@ -36,7 +37,7 @@ fn given(alloc: Global, unit: &ReadyUnit) -> Result<Given, AllocError>
             base: unit.copy.base,
         }),
         Work::Finalize { info, shards } => Ok(Given::Finalize {
-            info: info_copy(alloc, info)?,
+            info: info.try_clone(alloc)?,
             shards: ShardResults::from_slice(alloc, shards.as_slice())?,
         }),
         Work::Drop => Ok(Given::Drop),

@@ -13,6 +13,6 @@ pub use counted::Counted;
 pub use depot::{Commit, Depot, Names};
 pub use error::{CallError, Failed};
 pub use fetch::Fetch;
-pub use listing::{Listed, Listing, PAGE, Pages, copy_listing, is_after, page_of};
+pub use listing::{Listed, Listing, PAGE, Pages, is_after, page_of};
 pub use stage::Stage;
 pub use whole::read_whole;

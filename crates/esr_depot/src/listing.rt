@@ -5,7 +5,7 @@ ghost use Rattle.std.specs.Cmp.Lexicographic.{slice_cmp};
 ghost use Rattle.std.specs.Ordering.{nat_cmp};
 ghost use Rattle.esr_depot.specs.Listing.{size_of, is_after, page_from, IsPage};
 
-use esr_seq::{Seq, Text};
+use esr_seq::{Seq, Text, TryClone};
 use std::alloc::{AllocError, Global};
 use std::collections::BTreeMap;
 
@@ -53,27 +53,13 @@ impl Pages {
     }
 }
 
-impl Listed {
-    /// A copy of the whole.
-    pub fn try_clone(&self, alloc: Global) -> Result<Listed, AllocError>
-        ensures { IfOk result (λ l. l ≡ self.now) }
-    {
+impl TryClone for Listed {
+    fn try_clone(&self, alloc: Global) -> Result<Listed, AllocError> {
         Ok(Listed {
             name: self.name.try_clone(alloc)?,
             length: self.length,
         })
     }
-}
-
-/// A copy of a listing.
-pub fn copy_listing(alloc: Global, listing: &[Listed]) -> Result<Listing, AllocError>
-    ensures { IfOk result (λ l. l ≡ listing.now) }
-{
-    let mut copy = Seq::with_capacity(alloc, listing.len())?;
-    for listed in listing {
-        copy.push(listed.try_clone(alloc)?)?;
-    }
-    Ok(copy)
 }
 
 /// Whether a page after the first name may have the second one.
@@ -115,6 +101,6 @@ pub fn page_of(
     ensures copy { IfOk result (λ p. p.copy ≡ p.page) }
 {
     let page = first_after(alloc, after, lengths)?;
-    let copy = copy_listing(alloc, page.as_slice())?;
+    let copy = page.try_clone(alloc)?;
     Ok(Pages { page, copy })
 }

@@ -76,6 +76,17 @@ pub fn open_file<R: Files<File = File>>(files: &R, path: &str) -> io::Result<Opt
     }
 }
 
+/// Removes the files in a folder. At a type that isn't known its loop is proved far sooner than at a pair.
+pub fn remove_files_in<R: Files + AllocGlobal + Clone + Drop>(
+    files: &R,
+    folder: &str,
+) -> io::Result<()> {
+    for entry in fs::read_dir(files, folder)? {
+        fs::remove_file(files, entry?.path())?;
+    }
+    Ok(())
+}
+
 /// Removes a file, if there is one.
 pub fn remove_file<R: Files<File = File>>(files: &R, path: &str) -> io::Result<()> {
     match fs::remove_file(files, path) {

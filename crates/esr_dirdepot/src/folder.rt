@@ -3,7 +3,8 @@ ghost use Rattle.std.specs.Prelude.{◌≡◌, map, option_copied, IfOk};
 ghost use Rattle.esr_depot.specs.Listing.{size_of, IsPage};
 
 use crate::entries::{
-    clear_way, has_file, make_folder, make_way, open_file, parent_of, remove_file, sync_folder,
+    clear_way, has_file, make_folder, make_way, open_file, parent_of, remove_file, remove_files_in,
+    sync_folder,
 };
 use crate::hold::{Hold, open_lock, take_lock};
 use crate::name::is_inside;
@@ -136,9 +137,7 @@ impl<'a, R: Files<File = File> + Eprint> Folder<'a, R> {
         if self.is_cleared {
             return Ok(());
         }
-        for entry in fs::read_dir(&(self.files, alloc), self.paths.stages.as_str())? {
-            fs::remove_file(self.files, entry?.path())?;
-        }
+        remove_files_in(&(self.files, alloc), self.paths.stages.as_str())?;
         self.is_cleared = true;
         Ok(())
     }

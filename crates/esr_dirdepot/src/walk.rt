@@ -121,19 +121,20 @@ impl Walk<'_> {
     ) -> io::Result<()> {
         let folder = folder_of(from);
         let path = format!(in alloc; "{top}/{folder}")?;
-        self.read_at(files, alloc, path.as_str(), from, entries)
+        self.read_at(&(files, alloc), path.as_str(), from, entries)
     }
 
-    /// Adds the entries of the folder at a path that stand from this name on, as many as a page takes and the next one.
-    fn read_at<R: Files<File = File>>(
+    /// Adds the entries of the folder at a path that stand from this name on, as many as a page takes and the next one. At a
+    /// type that isn't known its loop is proved far sooner than at a pair.
+    fn read_at<R: Files + AllocGlobal + Clone + Drop>(
         &self,
         files: &R,
-        alloc: Global,
         path: &str,
         from: &str,
         entries: &mut BTreeSet<Text>,
     ) -> io::Result<()> {
-        for entry in fs::read_dir(&(files, alloc), path)? {
+        let alloc = files.alloc();
+        for entry in fs::read_dir(files, path)? {
             let entry = entry?;
             self.add(alloc, from, entry.file_name(), entries)?;
         }

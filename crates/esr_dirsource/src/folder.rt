@@ -5,7 +5,7 @@ ghost use Rattle.esr_source.specs.Files.{IsListing};
 
 use esr_seq::{Seq, Text};
 use esr_source::{Files as FileList, ListedFile, is_listing};
-use std::alloc::{AllocError, Global};
+use std::alloc::Global;
 use std::fs::{self, DirEntry, File, OpenFile};
 use std::io::{self, ErrorKind, Read};
 use std::rt::Files;
@@ -26,18 +26,18 @@ pub(crate) fn list<R: Files>(rt: &R, alloc: Global, folder: &str) -> io::Result<
 /// The files of a folder, in any order.
 fn files_in<R: Files>(rt: &R, alloc: Global, folder: &str) -> io::Result<Vec<ListedFile>> {
     let mut files = Vec::new(alloc);
-    add_files(rt, alloc, folder, &mut files)?;
+    add_files(&(rt, alloc), folder, &mut files)?;
     Ok(files)
 }
 
-/// Adds the files of a folder, in any order.
-fn add_files<R: Files>(
+/// Adds the files of a folder, in any order. At a type that isn't known its loop is proved far sooner than at a pair.
+fn add_files<R: Files + AllocGlobal + Clone + Drop>(
     rt: &R,
-    alloc: Global,
     folder: &str,
     files: &mut Vec<ListedFile>,
 ) -> io::Result<()> {
-    for entry in fs::read_dir(&(rt, alloc), folder)? {
+    let alloc = rt.alloc();
+    for entry in fs::read_dir(rt, folder)? {
         add_file(alloc, &entry?, files)?;
     }
     Ok(())
@@ -63,20 +63,6 @@ fn listed_file<R: Files>(alloc: Global, entry: &DirEntry<R>) -> io::Result<Liste
         name: Text::from_str(alloc, entry.file_name())?,
         length: metadata.len(),
     })
-}
-
-/// A copy of the list.
-pub(crate) fn copy_of(alloc: Global, files: &[ListedFile]) -> Result<FileList, AllocError>
-    ensures { IfOk result (λ copy. copy ≡ files.now) }
-{
-    let mut copy = Seq::new(alloc);
-    for file in files {
-        copy.push(ListedFile {
-            name: file.name.try_clone(alloc)?,
-            length: file.length,
-        })?;
-    }
-    Ok(copy)
 }
 
 /// Opens a plain file for reading. Anything else fails, a symbolic link too.

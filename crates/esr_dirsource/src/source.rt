@@ -4,10 +4,10 @@ ghost use Rattle.esr_source.specs.Files.{IsListing};
 ghost use Rattle.esr_dirsource.specs.Paths.{source_folder, file_path};
 
 use crate::faults::Faults;
-use crate::folder::{copy_of, list, open_plain, read_some};
+use crate::folder::{list, open_plain, read_some};
 use crate::paths::{path_in, source_folder};
 use esr_depot::{CallError, Counted, Failed};
-use esr_seq::Text;
+use esr_seq::{Text, TryClone};
 use esr_source::{Address, Files as FileList, New, Shard, Sources};
 use std::alloc::{AllocError, Global};
 use std::io::{self, ErrorKind};
@@ -89,7 +89,7 @@ where
                 return Err(CallError::Failed);
             }
         };
-        self.listed = Some(copy_of(alloc, files.as_slice())?);
+        self.listed = Some(files.try_clone(alloc)?);
         Ok(files)
     }
 

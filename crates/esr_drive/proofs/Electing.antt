@@ -1,5 +1,5 @@
 -- What elections leave, where nobody else makes a step.
-use Rattle.std.proofs.Common.{◌≡◌, ℕ, ◌+◌, ◌≤◌, true, List, [], ◌∷◌, ◌++◌, Ok, Err, OnOk, IfErr, append-nil, refl, sym, ap, ◌∙◌, subst, inr, arith}
+use Rattle.std.proofs.Common.{◌≡◌, ℕ, ◌+◌, ◌≤◌, true, List, [], ◌∷◌, ◌++◌, Ok, Err, OnOk, IfErr, append-nil, refl, sym, ap, ◌∙◌, subst, arith}
 use Rattle.esr_core.specs.Ready.{AnyReady}
 use Rattle.esr_core.specs.Entry.{TakeStep, ElectStep, Reply, NothingReady, ElectedTerm, Refusal, Refused, Moment}
 use Rattle.esr_desk.specs.declared.refusal.StepRefusal.{StepRefusal}
@@ -17,7 +17,7 @@ use Rattle.esr_drive.specs.Over.{NoReaderOut}
 use Rattle.esr_drive.specs.Stopped.{IsStopped, StoppedIn, stopped_in}
 use Rattle.esr_drive.specs.Takes.{idle_takes, stepped_takes}
 use Rattle.esr_drive.specs.Works.{WorksOnly}
-use Rattle.esr_drive.specs.Elections.{WaitsOnly, elections, HasElected, elections_more, waits_none, waits_on, works_elect_none}
+use Rattle.esr_drive.specs.Elections.{ElectsOnly, elections, HasElected, elections_more, elects_none, elects_on, works_elect_none}
 use Rattle.esr_drive.specs.Worked.{Answer}
 use Rattle.esr_drive.proofs.Resting.{GivesNone, stepped_is, step_rest, step_readers}
 
@@ -30,14 +30,14 @@ refused_none refusal ticket op unit e = cc
 -- so many elections were made, and nothing else
 pub record Elected (s : Start) (times : ℕ) (old new : List Moment) : Type 0 where
   pub grew : GrewAsking s [] old new
-  pub only : WaitsOnly old new
+  pub only : ElectsOnly old new
   pub takes : idle_takes new ≡ idle_takes old
   pub count : elections new ≡ elections old + times
   pub rest : NoneOut s old → NoneOut s new
   pub readers : NoReaderOut s old → NoReaderOut s new
 
 pub elected_none : (s : Start) (log : List Moment) → Elected s 0 log log
-elected_none s log = record { grew = asking_none s log; only = waits_none log; takes = refl; count = omega arith; rest = λ none. none; readers = λ none. none }
+elected_none s log = record { grew = asking_none s log; only = elects_none log; takes = refl; count = omega arith; rest = λ none. none; readers = λ none. none }
 
 -- where a step was not told
 pub elected_same : (s : Start) (times : ℕ) (old mid new : List Moment) → s.alone ≡ true → Waited s mid new 0 → Elected s times old mid → Elected s times old new
@@ -51,8 +51,8 @@ module _ (laws : Laws) (s : Start) (alone : s.alone ≡ true) where
     elect_is : new ≡ mid ++ electing ∷ []
     elect_is = stepped_is laws s alone mid new ElectStep reply h
 
-    elect_only : WaitsOnly mid new
-    elect_only = record { more = electing ∷ []; is = elect_is; all = (inr (inr refl), tt) }
+    elect_only : ElectsOnly mid new
+    elect_only = record { more = electing ∷ []; is = elect_is; all = (refl, tt) }
 
     pub elected_one : (times : ℕ) (old : List Moment) → Elected s times old mid → Elected s (times + 1) old new
     elected_one times old was =
@@ -63,7 +63,7 @@ module _ (laws : Laws) (s : Start) (alone : s.alone ≡ true) where
         let taken : idle_takes mid ≡ idle_takes old = was.takes in
         record {
           grew = asking_on s [] [] old mid new was.grew (asking_stepped s mid new ElectStep reply h);
-          only = waits_on old mid new was.only elect_only;
+          only = elects_on old mid new was.only elect_only;
           takes = omega (arith, none_taken, taken);
           count = omega (arith, one, last, before);
           rest = λ rest. step_rest laws s alone mid new ElectStep reply none h (was.rest rest);

@@ -20,6 +20,22 @@ pub record WaitsOnly (old new : List Moment) : Type 0 where
   pub is : new ≡ old ++ more
   pub all : AllOfWait more
 
+abbrev pub AllElect : List Moment → Type 0
+AllElect [] = Unit {0}
+AllElect (m ∷ more) = (m.entry.step ≡ ElectStep) × AllElect more
+
+-- ... by elections alone
+pub record ElectsOnly (old new : List Moment) : Type 0 where
+  pub more : List Moment
+  pub is : new ≡ old ++ more
+  pub all : AllElect more
+
+-- ... by elections, and by steps of tickets and takes after them
+pub record ElectsFirst (old new : List Moment) : Type 0 where
+  pub mid : List Moment
+  pub elects : ElectsOnly old mid
+  pub works : WorksOnly mid new
+
 -- whether a step is an election, whatever it was answered: 1, or 0
 abbrev pub election : ℕ → Step → ℕ
 election zero ElectStep = 1
@@ -46,9 +62,6 @@ elections_both (m ∷ a) b = let rest : elections (a ++ b) ≡ elections a + ele
 pub elections_more : (old more new : List Moment) → new ≡ old ++ more → elections new ≡ elections old + elections more
 elections_more old more new is = ap elections is ∙ elections_both old more
 
-pub waits_none : (log : List Moment) → WaitsOnly log log
-waits_none log = record { more = []; is = sym (append-nil log); all = tt }
-
 all_both : (a b : List Moment) → AllOfWait a → AllOfWait b → AllOfWait (a ++ b)
 all_both [] b of_a of_b = of_b
 all_both (m ∷ a) b of_a of_b = (of_a.0, all_both a b of_a.1 of_b)
@@ -59,6 +72,29 @@ waits_on old mid new first second = record {
   is = second.is ∙ ap (λ (log : List Moment). log ++ second.more) first.is ∙ append_assoc old first.more second.more;
   all = all_both first.more second.more first.all second.all;
 }
+
+-- ---- by elections alone
+
+pub elects_none : (log : List Moment) → ElectsOnly log log
+elects_none log = record { more = []; is = sym (append-nil log); all = tt }
+
+elect_both : (a b : List Moment) → AllElect a → AllElect b → AllElect (a ++ b)
+elect_both [] b of_a of_b = of_b
+elect_both (m ∷ a) b of_a of_b = (of_a.0, elect_both a b of_a.1 of_b)
+
+pub elects_on : (old mid new : List Moment) → ElectsOnly old mid → ElectsOnly mid new → ElectsOnly old new
+elects_on old mid new first second = record {
+  more = first.more ++ second.more;
+  is = second.is ∙ ap (λ (log : List Moment). log ++ second.more) first.is ∙ append_assoc old first.more second.more;
+  all = elect_both first.more second.more first.all second.all;
+}
+
+elect_all : (more : List Moment) → AllElect more → AllOfWait more
+elect_all [] all = tt
+elect_all (m ∷ more) all = (inr (inr all.0), elect_all more all.1)
+
+pub elects_wait : (old new : List Moment) → ElectsOnly old new → WaitsOnly old new
+elects_wait old new e = record { more = e.more; is = e.is; all = elect_all e.more e.all }
 
 -- ---- by work alone
 

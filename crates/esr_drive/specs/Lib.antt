@@ -7,4 +7,5 @@ pub mod Takes
 pub mod Calls
 pub mod Laws
 pub mod Elections
+pub mod Members
 pub mod Worked

@@ -9,7 +9,7 @@ ghost use Rattle.esr_quiet.specs.Asked.{GrewAsking};
 ghost use Rattle.esr_drive.specs.Outside.{IsOutside};
 ghost use Rattle.esr_drive.specs.Stopped.{StoppedIn};
 ghost use Rattle.esr_drive.specs.Over.{NoReaderOut};
-ghost use Rattle.esr_drive.specs.Elections.{WaitsOnly, HasElected};
+ghost use Rattle.esr_drive.specs.Elections.{WaitsOnly, ElectsOnly, ElectsFirst, HasElected};
 ghost use Rattle.esr_drive.specs.Takes.{idle_takes};
 
 use crate::law::laws;
@@ -23,7 +23,7 @@ use std::alloc::Global;
 fn elect_all<Q: Desk>(alloc: Global, desk: &mut Q, times: u64) -> Result<(), StepRefusal>
     requires alone { Q.start.alone ≡ true }
     ensures grew { GrewAsking Q.start [] (Q.seen desk.old) (Q.seen desk.new) }
-    ensures only { WaitsOnly (Q.seen desk.old) (Q.seen desk.new) }
+    ensures only { ElectsOnly (Q.seen desk.old) (Q.seen desk.new) }
     ensures takes { idle_takes (Q.seen desk.new) ≡ idle_takes (Q.seen desk.old) }
     ensures elects { HasElected times (Q.seen desk.old) (Q.seen desk.new) result }
     ensures rest { NoneOut Q.start (Q.seen desk.old) → NoneOut Q.start (Q.seen desk.new) }
@@ -60,6 +60,7 @@ pub fn work_alone<Q: Desk<Shard = S::Shard, Target = T::Target>, S: Sources, T: 
     requires legal { Legal Q.start (Q.seen desk.old) }
     ensures grew { GrewAsking Q.start [] (Q.seen desk.old) (Q.seen desk.new) }
     ensures only { WaitsOnly (Q.seen desk.old) (Q.seen desk.new) }
+    ensures first { ElectsFirst (Q.seen desk.old) (Q.seen desk.new) }
     ensures takes { idle_takes (Q.seen desk.new) ≤ idle_takes (Q.seen desk.old) + 1 }
     ensures elects { HasElected elections (Q.seen desk.old) (Q.seen desk.new) result }
     ensures rest { OnOk result (NoneOut Q.start (Q.seen desk.old) → NoReaderOut Q.start (Q.seen desk.old) → NoneOut Q.start (Q.seen desk.new)) }

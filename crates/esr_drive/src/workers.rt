@@ -1,6 +1,7 @@
 //! Workers at one lock, each in a thread of its own, and the activity that elects masters beside them.
 ghost use Rattle.std.specs.Prelude.{◌≡◌, ◌*◌, ◌≤◌, ◌^◌, IfErr};
 ghost use Rattle.std.specs.Thread.{IsSync};
+ghost use Rattle.esr_drive.specs.Members.{members};
 ghost use Rattle.esr_drive.specs.Stopped.{StoppedIn};
 ghost use Rattle.esr_drive.specs.Worked.{HasElectedBy, IsWorkable, IsNewPass, IsBack, graver};
 
@@ -15,7 +16,7 @@ use std::sync::Wait;
 use std::thread;
 use std::thread::Threads;
 
-// The turns of each worker but one, which has all that are left.
+// The turns of each thread but one, which has all that are left.
 const TURNS: u64 = 1 << 33;
 
 /// The pass of a worker that is back, and what it answers.
@@ -137,50 +138,31 @@ fn elector<Q: Sole, B: Since, R: Wait + Sync>(
     elector_told::<Q, B, Brand, R>(rt, alloc, lock, pass, times)
 }
 
-/// Works with so many workers, each in a thread of its own.
-fn drive<Q: Sole + Send, S, T, G: Gate, B: Since + Send + Sync, R: Threads + Wait + Sync>(
+/// The work of a crew of one: a worker's, or that of the thread that elects.
+fn member<Q: Sole, S, T, G: Gate, B: Since, R: Wait + Sync>(
     rt: &R,
     alloc: Global,
     lock: &TurnLock<Sitting<Q, B>>,
     pass: Pass<Sitting<Q, B>>,
     outside: &Outside<'_, S, T, G>,
-    workers: u32,
+    crew: Crew,
 ) -> Back<Q, B>
 where
     S: Sources<Shard = Q::Shard>,
     T: Targets<Target = Q::Target>,
-    Q::Stage: Send,
-    Q::Fetch: Send,
-    requires some { 1 ≤ workers }
-    requires few { workers ≤ 64 }
-    requires new { IsNewPass Q.start B.before lock.now (workers * 2 ^ 33) pass }
+    requires one { members crew.workers crew.elections ≡ 1 }
+    requires new { IsNewPass Q.start B.before lock.now (2 ^ 33) pass }
     requires workable { IsWorkable Q.start (S.told outside.now.sources.now) (T.told outside.now.targets.now) outside.now.part_size }
-    ensures { IsBack Q.start B.before lock.now pass result.0 workers 0 result.1 }
+    ensures { IsBack Q.start B.before lock.now pass result.0 crew.workers crew.elections result.1 }
 {
-    ended_tickets_stay();
-    if workers == 1 {
-        return worker(rt, alloc, lock, pass, outside);
+    if crew.workers == 0 {
+        elector(rt, alloc, lock, pass, crew.elections)
+    } else {
+        worker(rt, alloc, lock, pass, outside)
     }
-    let others = workers - 1;
-    let (rest, one) = lock.split(pass, TURNS);
-    let (one, rest) = thread::join(
-        rt,
-        move || -> Back<Q, B>
-            requires { IsSync R.row × IsNewPass Q.start B.before lock.now (2 ^ 33) one
-                × IsWorkable Q.start (S.told outside.now.sources.now) (T.told outside.now.targets.now) outside.now.part_size }
-            ensures { IsBack Q.start B.before lock.entry.now one result.0 1 0 result.1 }
-        { worker(rt, alloc, lock, one, outside) },
-        move || -> Back<Q, B>
-            requires { IsSync R.row × (1 ≤ others) × (others ≤ 64) × IsNewPass Q.start B.before lock.now (others * 2 ^ 33) rest
-                × IsWorkable Q.start (S.told outside.now.sources.now) (T.told outside.now.targets.now) outside.now.part_size }
-            ensures { IsBack Q.start B.before lock.entry.now rest result.0 others 0 result.1 }
-        { drive(rt, alloc, lock, rest, outside, others) },
-    );
-    let answer = graver(one.1, rest.1);
-    (lock.join(one.0, rest.0), answer)
 }
 
-/// Works with a crew: its workers, and a thread that elects.
+/// Works with a crew: its workers, and one that elects, each in a thread of its own.
 pub(crate) fn drive_and_elect<Q: Sole + Send, S, T, G: Gate, B, R: Threads + Wait + Sync>(
     rt: &R,
     alloc: Global,
@@ -195,30 +177,33 @@ where
     B: Since + Send + Sync,
     Q::Stage: Send,
     Q::Fetch: Send,
-    requires some { 1 ≤ crew.workers }
-    requires few { crew.workers ≤ 64 }
-    requires new { IsNewPass Q.start B.before lock.now (2 ^ 40) pass }
+    requires some { 1 ≤ members crew.workers crew.elections }
+    requires new { IsNewPass Q.start B.before lock.now (members crew.workers crew.elections * 2 ^ 33) pass }
     requires workable { IsWorkable Q.start (S.told outside.now.sources.now) (T.told outside.now.targets.now) outside.now.part_size }
     ensures { IsBack Q.start B.before lock.now pass result.0 crew.workers crew.elections result.1 }
 {
     ended_tickets_stay();
-    let workers = crew.workers;
-    let elections = crew.elections;
-    if elections == 0 {
-        return drive(rt, alloc, lock, pass, outside, workers);
+    if crew.members() == 1 {
+        return member(rt, alloc, lock, pass, outside, crew);
     }
+    let (first, others) = crew.split();
     let (rest, one) = lock.split(pass, TURNS);
     let (one, rest) = thread::join(
         rt,
         move || -> Back<Q, B>
-            requires { IsSync R.row × IsNewPass Q.start B.before lock.now (2 ^ 33) one }
-            ensures { IsBack Q.start B.before lock.entry.now one result.0 0 elections result.1 }
-        { elector(rt, alloc, lock, one, elections) },
+            requires sync { IsSync R.row }
+            requires one { members first.workers first.elections ≡ 1 }
+            requires new { IsNewPass Q.start B.before lock.now (2 ^ 33) one }
+            requires workable { IsWorkable Q.start (S.told outside.now.sources.now) (T.told outside.now.targets.now) outside.now.part_size }
+            ensures { IsBack Q.start B.before lock.entry.now one result.0 first.workers first.elections result.1 }
+        { member(rt, alloc, lock, one, outside, first) },
         move || -> Back<Q, B>
-            requires { IsSync R.row × (1 ≤ workers) × (workers ≤ 64) × IsNewPass Q.start B.before lock.now (workers * 2 ^ 33) rest
-                × IsWorkable Q.start (S.told outside.now.sources.now) (T.told outside.now.targets.now) outside.now.part_size }
-            ensures { IsBack Q.start B.before lock.entry.now rest result.0 workers 0 result.1 }
-        { drive(rt, alloc, lock, rest, outside, workers) },
+            requires sync { IsSync R.row }
+            requires some { 1 ≤ members others.workers others.elections }
+            requires new { IsNewPass Q.start B.before lock.now (members others.workers others.elections * 2 ^ 33) rest }
+            requires workable { IsWorkable Q.start (S.told outside.now.sources.now) (T.told outside.now.targets.now) outside.now.part_size }
+            ensures { IsBack Q.start B.before lock.entry.now rest result.0 others.workers others.elections result.1 }
+        { drive_and_elect(rt, alloc, lock, rest, outside, others) },
     );
     let answer = graver(one.1, rest.1);
     (lock.join(one.0, rest.0), answer)

@@ -1,7 +1,9 @@
 //! A container of which a call fails, or each from one on.
-ghost use Rattle.std.specs.Prelude.{◌≡◌, ◌≤◌, length};
+ghost use Rattle.std.specs.Prelude.{◌≡◌, ◌≤◌, length, map, option_copied, IfOk, IfSome};
 ghost use Rattle.esr_depot.specs.Calls.{up};
+ghost use Rattle.esr_depot.specs.Listing.{size_of, IsPage};
 ghost use Rattle.esr_depot.specs.Untold.{untold};
+ghost use Rattle.esr_faulty.specs.Counts.{clock_after, faults_after};
 
 use crate::faults::{Fault, Kind, Turn};
 use crate::pieces::{FaultyFetch, FaultyStage};
@@ -79,12 +81,18 @@ impl<D> Faulty<D> {
         self.fault.turn
     }
 
-    /// Whether the next call, which is of that kind, is made.
-    fn is_made(&mut self, kind: Kind) -> bool
-        ensures clock { self.new.clock ≡ self.old.clock }
-        ensures faults { self.new.faults ≡ self.old.faults }
+    /// Counts a call, by its answer.
+    fn count<T>(&mut self, answer: &Result<T, CallError>)
+        ensures clock { self.new.clock ≡ clock_after answer.now self.old.clock }
+        ensures later { self.old.clock ≤ self.new.clock }
+        ensures faults { self.new.faults ≡ faults_after answer.now self.old.faults }
+        ensures more { self.old.faults ≤ self.new.faults }
     {
-        self.next_turn(kind) == Turn::Made
+        match answer {
+            Ok(_) => self.pass(),
+            Err(CallError::Memory) => {}
+            Err(CallError::Failed) => self.fail(),
+        }
     }
 
     /// Stops it where that is the last text.
@@ -105,6 +113,75 @@ fn heard<T: Drop>(turn: Turn, answer: Result<T, CallError>) -> Result<T, CallErr
         return Err(CallError::Failed);
     }
     answer
+}
+
+/// A new stage, as the turn goes.
+fn begin_in<D: Depot>(
+    alloc: Global,
+    depot: &mut D,
+    turn: Turn,
+    name: &str,
+    room: usize,
+) -> Result<FaultyStage<D::Stage>, CallError>
+    ensures name { IfOk result (λ s. D.Stage.name s.stage ≡ name.now) }
+    ensures room { IfOk result (λ s. D.Stage.room s.stage ≡ room) }
+    ensures count { IfOk result (λ s. s.faults ≡ 0) }
+{
+    if !turn.gives() {
+        return Err(CallError::Failed);
+    }
+    let stage = depot.begin(alloc, name, room)?;
+    Ok(FaultyStage {
+        stage,
+        is_broken: turn == Turn::Broken,
+        faults: 0,
+    })
+}
+
+/// What is fetched, as the turn goes.
+fn fetch_in<D: Depot>(
+    alloc: Global,
+    depot: &mut D,
+    turn: Turn,
+    name: &str,
+) -> Result<Option<FaultyFetch<D::Fetch>>, CallError>
+    ensures { IfOk result (λ o. IfSome o (λ f. f.faults ≡ 0)) }
+{
+    if !turn.gives() {
+        return Err(CallError::Failed);
+    }
+    let Some(fetch) = depot.fetch(alloc, name)? else {
+        return Ok(None);
+    };
+    Ok(Some(FaultyFetch {
+        fetch,
+        is_broken: turn == Turn::Broken,
+        faults: 0,
+    }))
+}
+
+/// A page, as the turn goes.
+fn list_in<D: Depot>(
+    alloc: Global,
+    depot: &mut D,
+    turn: Turn,
+    after: Option<&str>,
+) -> Result<Pages, CallError>
+    ensures page { IfOk result (λ p. IsPage (option_copied after.entry) (map size_of p.page)) }
+    ensures copy { IfOk result (λ p. p.copy ≡ p.page) }
+{
+    if turn != Turn::Made {
+        return Err(CallError::Failed);
+    }
+    depot.list(alloc, after)
+}
+
+/// The text of the record, as the turn goes.
+fn read_in<D: Depot>(alloc: Global, depot: &mut D, turn: Turn) -> Result<Option<Bytes>, CallError> {
+    if turn != Turn::Made {
+        return Err(CallError::Failed);
+    }
+    depot.read_record(alloc)
 }
 
 /// A commit, as the turn goes.
@@ -210,55 +287,23 @@ impl<D: Depot> Depot for Faulty<D> {
         room: usize,
     ) -> Result<FaultyStage<D::Stage>, CallError> {
         let turn = self.next_turn(Kind::Begin);
-        if turn != Turn::Made && turn != Turn::Broken {
-            self.fail();
-            return Err(CallError::Failed);
-        }
-        match self.depot.begin(alloc, name, room) {
-            Ok(stage) => {
-                self.pass();
-                Ok(FaultyStage {
-                    stage,
-                    is_broken: turn == Turn::Broken,
-                    faults: 0,
-                })
-            }
-            Err(CallError::Memory) => Err(CallError::Memory),
-            Err(CallError::Failed) => {
-                self.fail();
-                Err(CallError::Failed)
-            }
-        }
+        let answer = begin_in(alloc, &mut self.depot, turn, name, room);
+        self.count(&answer);
+        answer
     }
 
     fn commit(&mut self, alloc: Global, stage: FaultyStage<D::Stage>) -> Result<Commit, CallError> {
         let turn = self.next_turn(Kind::Commit);
-        match commit_in(alloc, &mut self.depot, turn, stage.stage) {
-            Ok(answer) => {
-                self.pass();
-                Ok(answer)
-            }
-            Err(CallError::Memory) => Err(CallError::Memory),
-            Err(CallError::Failed) => {
-                self.fail();
-                Err(CallError::Failed)
-            }
-        }
+        let answer = commit_in(alloc, &mut self.depot, turn, stage.stage);
+        self.count(&answer);
+        answer
     }
 
     fn replace(&mut self, alloc: Global, stage: FaultyStage<D::Stage>) -> Result<(), CallError> {
         let turn = self.next_turn(Kind::Replace);
-        match replace_in(alloc, &mut self.depot, turn, stage.stage) {
-            Ok(()) => {
-                self.pass();
-                Ok(())
-            }
-            Err(CallError::Memory) => Err(CallError::Memory),
-            Err(CallError::Failed) => {
-                self.fail();
-                Err(CallError::Failed)
-            }
-        }
+        let answer = replace_in(alloc, &mut self.depot, turn, stage.stage);
+        self.count(&answer);
+        answer
     }
 
     fn fetch(
@@ -267,47 +312,16 @@ impl<D: Depot> Depot for Faulty<D> {
         name: &str,
     ) -> Result<Option<FaultyFetch<D::Fetch>>, CallError> {
         let turn = self.next_turn(Kind::Fetch);
-        if turn != Turn::Made && turn != Turn::Broken {
-            self.fail();
-            return Err(CallError::Failed);
-        }
-        match self.depot.fetch(alloc, name) {
-            Ok(Some(fetch)) => {
-                self.pass();
-                Ok(Some(FaultyFetch {
-                    fetch,
-                    is_broken: turn == Turn::Broken,
-                    faults: 0,
-                }))
-            }
-            Ok(None) => {
-                self.pass();
-                Ok(None)
-            }
-            Err(CallError::Memory) => Err(CallError::Memory),
-            Err(CallError::Failed) => {
-                self.fail();
-                Err(CallError::Failed)
-            }
-        }
+        let answer = fetch_in(alloc, &mut self.depot, turn, name);
+        self.count(&answer);
+        answer
     }
 
     fn list(&mut self, alloc: Global, after: Option<&str>) -> Result<Pages, CallError> {
-        if !self.is_made(Kind::List) {
-            self.fail();
-            return Err(CallError::Failed);
-        }
-        match self.depot.list(alloc, after) {
-            Ok(pages) => {
-                self.pass();
-                Ok(pages)
-            }
-            Err(CallError::Memory) => Err(CallError::Memory),
-            Err(CallError::Failed) => {
-                self.fail();
-                Err(CallError::Failed)
-            }
-        }
+        let turn = self.next_turn(Kind::List);
+        let answer = list_in(alloc, &mut self.depot, turn, after);
+        self.count(&answer);
+        answer
     }
 
     fn remove(&mut self, names: &Names) -> Result<(), Failed> {
@@ -325,36 +339,17 @@ impl<D: Depot> Depot for Faulty<D> {
     }
 
     fn read_record(&mut self, alloc: Global) -> Result<Option<Bytes>, CallError> {
-        if !self.is_made(Kind::ReadRecord) {
-            self.fail();
-            return Err(CallError::Failed);
-        }
-        match self.depot.read_record(alloc) {
-            Ok(text) => {
-                self.pass();
-                Ok(text)
-            }
-            Err(CallError::Memory) => Err(CallError::Memory),
-            Err(CallError::Failed) => {
-                self.fail();
-                Err(CallError::Failed)
-            }
-        }
+        let turn = self.next_turn(Kind::ReadRecord);
+        let answer = read_in(alloc, &mut self.depot, turn);
+        self.count(&answer);
+        answer
     }
 
     fn swap_record(&mut self, alloc: Global, text: &[u8]) -> Result<(), CallError> {
         self.note(text);
         let turn = self.next_turn(Kind::SwapRecord);
-        match swap_in(alloc, &mut self.depot, turn, text) {
-            Ok(()) => {
-                self.pass();
-                Ok(())
-            }
-            Err(CallError::Memory) => Err(CallError::Memory),
-            Err(CallError::Failed) => {
-                self.fail();
-                Err(CallError::Failed)
-            }
-        }
+        let answer = swap_in(alloc, &mut self.depot, turn, text);
+        self.count(&answer);
+        answer
     }
 }

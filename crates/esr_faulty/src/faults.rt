@@ -65,6 +65,11 @@ impl Kind {
 }
 
 impl Turn {
+    /// Whether a call that gives a stage or a fetch is made.
+    pub(crate) fn gives(self) -> bool {
+        self == Turn::Made || self == Turn::Broken
+    }
+
     /// Whether the call is made, as it is.
     pub(crate) fn is_made(self) -> bool {
         self == Turn::Made || self == Turn::Lost

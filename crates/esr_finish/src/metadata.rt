@@ -20,7 +20,7 @@ use esr_desk::Desk;
 use esr_formats::{write_global, write_index_meta, write_info};
 use esr_meta::{GlobalMeta, IndexMeta, SnapInfo};
 use esr_names::{BlobName, Id, IndexRef};
-use esr_seq::Bytes;
+use esr_seq::{Bytes, TryClone};
 use esr_unit::Trouble;
 use std::alloc::{AllocError, Global};
 

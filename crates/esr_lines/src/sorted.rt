@@ -5,7 +5,7 @@ ghost use Rattle.esr_formats.specs.Roots.{root_snap_of};
 ghost use Rattle.esr_lines.specs.Lines.{name_first};
 
 use esr_root::RootSnap;
-use esr_seq::Seq;
+use esr_seq::{Seq, TryClone};
 use std::alloc::{AllocError, Global};
 
 /// The first name isn't above the second.

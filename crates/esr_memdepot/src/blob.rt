@@ -7,7 +7,7 @@ ghost use Rattle.esr_memdepot.specs.Past.{kept, held, found, marked, mark_each, 
 
 use crate::plan::Leaves;
 use esr_depot::Names;
-use esr_seq::{Bytes, Text};
+use esr_seq::{Bytes, Text, TryClone};
 use std::alloc::{AllocError, Global};
 
 /// The call that took a blob away, by the clock after it, and the blob's place among the names of that call.

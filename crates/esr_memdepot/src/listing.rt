@@ -7,7 +7,7 @@ ghost use Rattle.esr_memdepot.specs.Past.{held, is_there};
 
 use crate::blob::KeptBlob;
 use esr_depot::{Pages, page_of};
-use esr_seq::Text;
+use esr_seq::{Text, TryClone};
 use std::alloc::{AllocError, Global};
 use std::collections::BTreeMap;
 

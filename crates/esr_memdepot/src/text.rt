@@ -5,7 +5,7 @@ ghost use Rattle.std.specs.List.{list_all};
 ghost use Rattle.esr_memdepot.specs.Past.{last_text, left_text, is_text_dated};
 
 use crate::plan::Leaves;
-use esr_seq::Bytes;
+use esr_seq::{Bytes, TryClone};
 use std::alloc::{AllocError, Global};
 
 /// A text of the record, and the clock after the call that brought it. One that a failed call didn't leave doesn't stand.

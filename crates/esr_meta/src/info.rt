@@ -8,7 +8,7 @@ use esr_json::{Key, ObjectBuilder, ReadRefusal, number, parse, write};
 use esr_names::{
     Id, IndexRefs, SnapName, id_at, id_value, indices_at, indices_value, snap_name_at,
 };
-use esr_seq::Bytes;
+use esr_seq::{Bytes, TryClone};
 use serde_json::Value;
 use std::alloc::{AllocError, Global};
 use std::marker::Model;
@@ -49,6 +49,20 @@ impl Model for SnapInfo {
     ghost view = { λ a. record { bytes = a.bytes; files = a.files; indices = a.indices; moment = a.moment; name = a.name; state = a.state; uuid = a.uuid } };
 
     ghost invariant = { λ a. IsInfo (record { bytes = a.bytes; files = a.files; indices = a.indices; moment = a.moment; name = a.name; state = a.state; uuid = a.uuid }) };
+}
+
+impl TryClone for SnapInfo {
+    fn try_clone(&self, alloc: Global) -> Result<SnapInfo, AllocError> {
+        Ok(SnapInfo {
+            bytes: self.bytes,
+            files: self.files,
+            indices: self.indices.try_clone(alloc)?,
+            moment: self.moment,
+            name: self.name.try_clone(alloc)?,
+            state: self.state,
+            uuid: self.uuid,
+        })
+    }
 }
 
 #[tactic(auto, unfolding(crate::specs::Info::info_of))]

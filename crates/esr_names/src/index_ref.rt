@@ -1,8 +1,7 @@
 //! An index as a command names it, and lists of ids, names and indices.
-ghost use Rattle.std.specs.Prelude.{◌≡◌, IfOk};
 
 use crate::{Id, IndexName, SnapName};
-use esr_seq::Seq;
+use esr_seq::{Seq, TryClone};
 use std::alloc::{AllocError, Global};
 
 /// An index: its id, its name, and how many shards it has.
@@ -24,11 +23,8 @@ impl Drop for IndexRef {
     }
 }
 
-impl IndexRef {
-    /// A copy of the whole.
-    pub fn try_clone(&self, alloc: Global) -> Result<IndexRef, AllocError>
-        ensures { IfOk result (λ i. i ≡ self.now) }
-    {
+impl TryClone for IndexRef {
+    fn try_clone(&self, alloc: Global) -> Result<IndexRef, AllocError> {
         Ok(IndexRef {
             id: self.id,
             name: self.name.try_clone(alloc)?,

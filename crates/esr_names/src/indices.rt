@@ -133,14 +133,3 @@ pub fn indices_value(alloc: Global, refs: &IndexRefs) -> Result<Value, AllocErro
     }
     Ok(Value::Array(values))
 }
-
-/// A copy of a list of indices.
-pub fn indices_copy(alloc: Global, refs: &IndexRefs) -> Result<IndexRefs, AllocError>
-    ensures { IfOk result (λ copy. copy ≡ refs.now) }
-{
-    let mut copy = IndexRefs::with_capacity(alloc, refs.len())?;
-    for index in refs.as_slice() {
-        copy.push(index.try_clone(alloc)?)?;
-    }
-    Ok(copy)
-}

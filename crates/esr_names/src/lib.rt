@@ -11,8 +11,6 @@ mod parse;
 pub use blob::{BlobName, ShardId, is_name, print_name};
 pub use ids::{ID_TEXT_LEN, Id, id_read, id_reads_back, id_text, worked_texts};
 pub use index_ref::{Ids, IndexNames, IndexRef, IndexRefs, SnapNames};
-pub use indices::{
-    id_at, id_value, index_name_at, indices_at, indices_copy, indices_value, snap_name_at,
-};
+pub use indices::{id_at, id_value, index_name_at, indices_at, indices_value, snap_name_at};
 pub use name::{BadName, IndexName, NameRefusal, Rule, SnapName};
 pub use parse::{one_text, parse_name};

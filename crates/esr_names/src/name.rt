@@ -6,6 +6,7 @@ ghost use Rattle.std.specs.Cmp.Lexicographic.{slice_cmp, nat_list_eq_equiv, nat_
 ghost use Rattle.std.specs.Str.{IsUtf8};
 ghost use Rattle.esr_names.specs.NameRule.{byte_rule, name_fault, snap_name_fault, index_name_fault, Explains};
 
+use esr_seq::TryClone;
 use std::alloc::{AllocError, Global};
 use std::cmp::Ordering;
 use std::marker::Model;
@@ -148,20 +149,19 @@ impl SnapName {
         }
     }
 
-    /// A copy of the name.
-    pub fn try_clone(&self, alloc: Global) -> Result<SnapName, AllocError>
-        ensures { IfOk result (λ n. n ≡ self.now) }
-    {
-        let text = String::from_str(alloc, self.text.as_str())?;
-        Ok(SnapName { text })
-    }
-
     pub fn as_str(&self) -> &str
         ensures text { result.now ≡ self.now }
         ensures rule { snap_name_fault self.now ≡ None }
         ensures utf8 { IsUtf8 self.now }
     {
         self.text.as_str()
+    }
+}
+
+impl TryClone for SnapName {
+    fn try_clone(&self, alloc: Global) -> Result<SnapName, AllocError> {
+        let text = String::from_str(alloc, self.text.as_str())?;
+        Ok(SnapName { text })
     }
 }
 
@@ -245,20 +245,19 @@ impl IndexName {
         }
     }
 
-    /// A copy of the name.
-    pub fn try_clone(&self, alloc: Global) -> Result<IndexName, AllocError>
-        ensures { IfOk result (λ n. n ≡ self.now) }
-    {
-        let text = String::from_str(alloc, self.text.as_str())?;
-        Ok(IndexName { text })
-    }
-
     pub fn as_str(&self) -> &str
         ensures text { result.now ≡ self.now }
         ensures rule { index_name_fault self.now ≡ None }
         ensures utf8 { IsUtf8 self.now }
     {
         self.text.as_str()
+    }
+}
+
+impl TryClone for IndexName {
+    fn try_clone(&self, alloc: Global) -> Result<IndexName, AllocError> {
+        let text = String::from_str(alloc, self.text.as_str())?;
+        Ok(IndexName { text })
     }
 }
 

@@ -16,6 +16,7 @@ use esr_meta::SnapInfo;
 use esr_names::{Id, IndexName, IndexRef};
 use esr_results::{ShardResult, ShardResults};
 use esr_root::{RootData, RootSnap};
+use esr_seq::TryClone;
 use std::alloc::{AllocError, Global};
 
 /// The indices of a root keep their rule.

@@ -9,6 +9,7 @@ ghost use Rattle.esr_root.specs.Indices.{AreIndices};
 use esr_names::{Id, Ids};
 use esr_results::{PrunedShard, PrunedShards};
 use esr_root::RootData;
+use esr_seq::TryClone;
 use std::alloc::{AllocError, Global};
 
 /// The indices of a root keep their rule.

@@ -12,7 +12,7 @@ use crate::{OpenRefusal, Why};
 use esr_depot::{Depot, Listed};
 use esr_formats::read_cluster;
 use esr_record::ClusterRecord;
-use esr_seq::{Bytes, Text};
+use esr_seq::{Bytes, Text, TryClone};
 use std::alloc::Global;
 
 /// The record of this text.

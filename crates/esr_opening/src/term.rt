@@ -13,6 +13,7 @@ use esr_depot::Depot;
 use esr_formats::write_cluster;
 use esr_progress::Progress;
 use esr_record::{ClusterRecord, OpWork, RecordOp, RecordOps};
+use esr_seq::TryClone;
 use std::alloc::{AllocError, Global};
 
 /// Whether the op is a delete.

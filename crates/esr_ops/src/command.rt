@@ -1,8 +1,7 @@
 //! What a caller asks for.
-ghost use Rattle.std.specs.Prelude.{◌≡◌, IfOk};
 
 use esr_names::{IndexName, IndexNames, SnapName, SnapNames};
-use esr_seq::{Seq, Text};
+use esr_seq::{Seq, Text, TryClone};
 use std::alloc::{AllocError, Global};
 
 /// An index that a snapshot is to hold.
@@ -22,6 +21,16 @@ impl Drop for AskedIndex {
             shards: _,
             place: _place,
         } = self;
+    }
+}
+
+impl TryClone for AskedIndex {
+    fn try_clone(&self, alloc: Global) -> Result<AskedIndex, AllocError> {
+        Ok(AskedIndex {
+            name: self.name.try_clone(alloc)?,
+            shards: self.shards,
+            place: self.place.try_clone(alloc)?,
+        })
     }
 }
 
@@ -87,48 +96,8 @@ pub struct Accepted {
     pub drawn: u64,
 }
 
-/// A copy of the indices of a command.
-fn indices_copy(alloc: Global, indices: &AskedIndices) -> Result<AskedIndices, AllocError>
-    ensures { IfOk result (λ copy. copy ≡ indices.now) }
-{
-    let mut copy = AskedIndices::with_capacity(alloc, indices.len())?;
-    for index in indices.as_slice() {
-        copy.push(AskedIndex {
-            name: index.name.try_clone(alloc)?,
-            shards: index.shards,
-            place: index.place.try_clone(alloc)?,
-        })?;
-    }
-    Ok(copy)
-}
-
-/// A copy of the names of indices.
-pub fn index_names_copy(alloc: Global, names: &IndexNames) -> Result<IndexNames, AllocError>
-    ensures { IfOk result (λ copy. copy ≡ names.now) }
-{
-    let mut copy = IndexNames::with_capacity(alloc, names.len())?;
-    for name in names.as_slice() {
-        copy.push(name.try_clone(alloc)?)?;
-    }
-    Ok(copy)
-}
-
-/// A copy of the names of snapshots.
-pub fn snap_names_copy(alloc: Global, names: &SnapNames) -> Result<SnapNames, AllocError>
-    ensures { IfOk result (λ copy. copy ≡ names.now) }
-{
-    let mut copy = SnapNames::with_capacity(alloc, names.len())?;
-    for name in names.as_slice() {
-        copy.push(name.try_clone(alloc)?)?;
-    }
-    Ok(copy)
-}
-
-impl Command {
-    /// A copy.
-    pub fn try_clone(&self, alloc: Global) -> Result<Command, AllocError>
-        ensures { IfOk result (λ copy. copy ≡ self.now) }
-    {
+impl TryClone for Command {
+    fn try_clone(&self, alloc: Global) -> Result<Command, AllocError> {
         match self {
             Command::Create {
                 name,
@@ -136,7 +105,7 @@ impl Command {
                 moment,
             } => Ok(Command::Create {
                 name: name.try_clone(alloc)?,
-                indices: indices_copy(alloc, indices)?,
+                indices: indices.try_clone(alloc)?,
                 moment: *moment,
             }),
             Command::Clone {
@@ -147,11 +116,11 @@ impl Command {
             } => Ok(Command::Clone {
                 source: source.try_clone(alloc)?,
                 name: name.try_clone(alloc)?,
-                indices: index_names_copy(alloc, indices)?,
+                indices: indices.try_clone(alloc)?,
                 moment: *moment,
             }),
             Command::Delete { names } => {
-                let names = snap_names_copy(alloc, names)?;
+                let names = names.try_clone(alloc)?;
                 Ok(Command::Delete { names })
             }
             Command::Restore { name, place } => Ok(Command::Restore {

@@ -15,6 +15,7 @@ use crate::{SeatKind, Work};
 use esr_names::{Id, Ids};
 use esr_record::{OpWork, RecordOp, RecordOps};
 use esr_root::RootSnap;
+use esr_seq::TryClone;
 use std::alloc::{AllocError, Global};
 use std::marker::Model;
 
@@ -195,11 +196,10 @@ impl OpenDelete {
     {
         self.failed = true;
     }
+}
 
-    /// A copy.
-    pub fn try_clone(&self, alloc: Global) -> Result<OpenDelete, AllocError>
-        ensures { IfOk result (λ d. d ≡ self.now) }
-    {
+impl TryClone for OpenDelete {
+    fn try_clone(&self, alloc: Global) -> Result<OpenDelete, AllocError> {
         Ok(OpenDelete {
             number: self.number,
             uuids: Ids::from_slice(alloc, self.uuids.as_slice())?,

@@ -10,7 +10,7 @@ mod seats;
 mod shard;
 mod unit;
 
-pub use command::{Accepted, AskedIndex, AskedIndices, Command, index_names_copy, snap_names_copy};
+pub use command::{Accepted, AskedIndex, AskedIndices, Command};
 pub use delete::{OpenDelete, names, push_between, push_new};
 pub use open_op::{OpenOp, later};
 pub use refusal::Refusal;

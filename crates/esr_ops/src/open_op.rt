@@ -15,10 +15,10 @@ ghost use Rattle.esr_ops.specs.Ops.{op_with, IsOpenOp, IsMakingOf, has_stopped, 
 use crate::shard::{self, OpenShard, ShardState};
 use crate::{OpenRestore, Work};
 use esr_meta::SnapInfo;
-use esr_names::{Id, IndexName, ShardId, indices_copy};
+use esr_names::{Id, IndexName, ShardId};
 use esr_record::{Making, OpWork, RecordOp};
 use esr_results::ShardResult;
-use esr_seq::{Seq, Text};
+use esr_seq::{Seq, Text, TryClone};
 use std::alloc::{AllocError, Global};
 use std::marker::Model;
 
@@ -225,7 +225,7 @@ impl OpenOp {
         let info = SnapInfo {
             bytes,
             files,
-            indices: indices_copy(alloc, &self.making.indices)?,
+            indices: self.making.indices.try_clone(alloc)?,
             moment: self.making.moment,
             name: self.making.name.try_clone(alloc)?,
             state: 1,
@@ -267,21 +267,6 @@ impl OpenOp {
         most
     }
 
-    /// A copy.
-    pub fn try_clone(&self, alloc: Global) -> Result<OpenOp, AllocError>
-        ensures { IfOk result (λ o. o ≡ self.now) }
-    {
-        Ok(OpenOp {
-            number: self.number,
-            making: self.making.try_clone(alloc)?,
-            places: copy_places(alloc, self.places.as_slice())?,
-            shards: Vec::from_slice(alloc, self.shards.as_slice())?,
-            failed: self.failed,
-            source: self.source,
-            aborted: self.aborted,
-        })
-    }
-
     /// A copy that this delete has aborted.
     pub fn aborted_by(&self, alloc: Global, by: u64) -> Result<OpenOp, AllocError>
         ensures { IfOk result (λ o. o ≡ (self.now.0, record self.now.1 { aborted = Some by })) }
@@ -300,6 +285,20 @@ impl OpenOp {
         Ok(RecordOp {
             op: self.number,
             work: making_work(info, self.source),
+        })
+    }
+}
+
+impl TryClone for OpenOp {
+    fn try_clone(&self, alloc: Global) -> Result<OpenOp, AllocError> {
+        Ok(OpenOp {
+            number: self.number,
+            making: self.making.try_clone(alloc)?,
+            places: self.places.try_clone(alloc)?,
+            shards: Vec::from_slice(alloc, self.shards.as_slice())?,
+            failed: self.failed,
+            source: self.source,
+            aborted: self.aborted,
         })
     }
 }
@@ -364,16 +363,6 @@ fn sums(shards: &[ShardResult]) -> (u64, u64)
         bytes = bytes.saturating_add(shard.bytes);
     }
     (files.min((1 << 63) - 1), bytes.min((1 << 63) - 1))
-}
-
-fn copy_places(alloc: Global, places: &[Text]) -> Result<Seq<Text>, AllocError>
-    ensures { IfOk result (λ v. v ≡ places.now) }
-{
-    let mut copy = Seq::with_capacity(alloc, places.len())?;
-    for place in places {
-        copy.push(place.try_clone(alloc)?)?;
-    }
-    Ok(copy)
 }
 
 /// The larger of two ids, or the one that is there.

@@ -8,8 +8,8 @@ ghost use Rattle.esr_ops.specs.Restores.{restore_with, IsOpenRestore, is_unread,
 
 use crate::Work;
 use crate::shard::{self, OpenShard, ShardState};
-use esr_names::{Id, IndexRefs, ShardId, indices_copy};
-use esr_seq::Text;
+use esr_names::{Id, IndexRefs, ShardId};
+use esr_seq::{Text, TryClone};
 use std::alloc::{AllocError, Global};
 use std::marker::Model;
 
@@ -146,16 +146,15 @@ impl OpenRestore {
     {
         shard::mark(&mut self.shards, ticket, ShardState::GivenUp);
     }
+}
 
-    /// A copy.
-    pub fn try_clone(&self, alloc: Global) -> Result<OpenRestore, AllocError>
-        ensures { IfOk result (λ r. r ≡ self.now) }
-    {
+impl TryClone for OpenRestore {
+    fn try_clone(&self, alloc: Global) -> Result<OpenRestore, AllocError> {
         Ok(OpenRestore {
             number: self.number,
             uuid: self.uuid,
             place: self.place.try_clone(alloc)?,
-            indices: indices_copy(alloc, &self.indices)?,
+            indices: self.indices.try_clone(alloc)?,
             shards: Vec::from_slice(alloc, self.shards.as_slice())?,
         })
     }

@@ -5,7 +5,7 @@ ghost use Rattle.esr_model.specs.Places.{comes_first as first, numbered as numbe
 ghost use Rattle.esr_plain.specs.Places.{place_of};
 
 use esr_names::IndexRef;
-use esr_seq::Seq;
+use esr_seq::{Seq, TryClone};
 use std::alloc::{AllocError, Global};
 use std::cmp::Ordering;
 

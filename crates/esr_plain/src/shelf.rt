@@ -7,7 +7,7 @@ ghost use Rattle.esr_model.specs.Uploads.{same_bytes};
 ghost use Rattle.esr_plain.specs.Commands.{command_of, made_list};
 
 use esr_names::{Id, Ids};
-use esr_seq::{Bytes, Seq, Text};
+use esr_seq::{Bytes, Seq, Text, TryClone};
 use std::alloc::{AllocError, Global};
 use std::marker::Model;
 
@@ -24,6 +24,15 @@ impl Model for File {
     ghost Value = { List ℕ × List ℕ };
 
     ghost view = { λ f. (f.name, f.bytes) };
+}
+
+impl TryClone for File {
+    fn try_clone(&self, alloc: Global) -> Result<File, AllocError> {
+        Ok(File {
+            name: self.name.try_clone(alloc)?,
+            bytes: self.bytes.try_clone(alloc)?,
+        })
+    }
 }
 
 /// Files in the byte order of their names.
@@ -43,6 +52,16 @@ impl Model for ShelfShard {
     ghost Value = { ShardOnShelf };
 
     ghost view = { λ s. record { index = s.index; number = s.number; files = s.files } };
+}
+
+impl TryClone for ShelfShard {
+    fn try_clone(&self, alloc: Global) -> Result<ShelfShard, AllocError> {
+        Ok(ShelfShard {
+            index: self.index.try_clone(alloc)?,
+            number: self.number,
+            files: self.files.try_clone(alloc)?,
+        })
+    }
 }
 
 /// Shards by the names of their indices in byte order, and by number within each.
@@ -130,31 +149,6 @@ fn is_of_one(names: &[Text], shard: &ShelfShard) -> bool
     is_among(names, &shard.index)
 }
 
-/// A copy of some files.
-fn files_copy(alloc: Global, files: &Files) -> Result<Files, AllocError>
-    ensures { IfOk result (λ copy. copy ≡ files.now) }
-{
-    let mut copy = Files::with_capacity(alloc, files.len())?;
-    for file in files.as_slice() {
-        copy.push(File {
-            name: file.name.try_clone(alloc)?,
-            bytes: file.bytes.try_clone(alloc)?,
-        })?;
-    }
-    Ok(copy)
-}
-
-/// A copy of a shard.
-fn shard_copy(alloc: Global, shard: &ShelfShard) -> Result<ShelfShard, AllocError>
-    ensures { IfOk result (λ copy. copy ≡ shard.now) }
-{
-    Ok(ShelfShard {
-        index: shard.index.try_clone(alloc)?,
-        number: shard.number,
-        files: files_copy(alloc, &shard.files)?,
-    })
-}
-
 /// Copies of the shards that are of these indices.
 fn shards_of(alloc: Global, names: &[Text], shards: &ShelfShards) -> Result<ShelfShards, AllocError>
     ensures { IfOk result (λ kept. kept ≡ filter (of_one names.now) shards.now) }
@@ -162,7 +156,7 @@ fn shards_of(alloc: Global, names: &[Text], shards: &ShelfShards) -> Result<Shel
     let mut kept = ShelfShards::new(alloc);
     for shard in shards.as_slice() {
         if is_of_one(names, shard) {
-            kept.push(shard_copy(alloc, shard)?)?;
+            kept.push(shard.try_clone(alloc)?)?;
         }
     }
     Ok(kept)

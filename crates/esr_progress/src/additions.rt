@@ -8,8 +8,8 @@ ghost use Rattle.esr_progress.specs.Changes.{put_plan};
 ghost use Rattle.esr_ops.specs.Inside.{IsProgress};
 
 use crate::Progress;
-use crate::progress::copy_restores;
 use esr_ops::{OpenDelete, OpenOp, OpenRestore};
+use esr_seq::copies_of;
 use std::alloc::{AllocError, Global};
 
 impl Progress {
@@ -37,7 +37,7 @@ impl Progress {
         requires { IsProgress ops.items deletes.items next_op (fin.entries self.now.restores) }
         ensures { IfOk result (λ p. p ≡ record self.now { ops = fin.from_entries ops.items; deletes = fin.from_entries deletes.items; next_op = next_op }) }
     {
-        let restores = copy_restores(alloc, &self.restores)?;
+        let restores = copies_of(alloc, &self.restores)?;
         self.with_entries(alloc, ops, deletes, restores, next_op)
     }
 

@@ -1,4 +1,4 @@
-//! Infos of snapshots: copies, and that of an op whose shards are done.
+//! Infos of snapshots, and that of an op whose shards are done.
 ghost use Rattle.std.specs.Prelude.{◌≡◌, Ok, Some, None, List, IfOk, IfSome};
 ghost use Rattle.std.specs.FinMap as fin;
 ghost use Rattle.esr_model.specs.Values.{ShardResult};
@@ -8,28 +8,12 @@ ghost use Rattle.esr_formats.specs.Infos.{info_of_code};
 use crate::Progress;
 use crate::progress::place;
 use esr_meta::SnapInfo;
-use esr_names::indices_copy;
 use esr_ops::Work;
 use esr_seq::Seq;
 use std::alloc::{AllocError, Global};
 
 /// Infos of snapshots, in order.
 pub type SnapInfos = Seq<SnapInfo>;
-
-/// A copy of an info.
-pub fn info_copy(alloc: Global, info: &SnapInfo) -> Result<SnapInfo, AllocError>
-    ensures { IfOk result (λ copy. copy ≡ info.now) }
-{
-    Ok(SnapInfo {
-        bytes: info.bytes,
-        files: info.files,
-        indices: indices_copy(alloc, &info.indices)?,
-        moment: info.moment,
-        name: info.name.try_clone(alloc)?,
-        state: info.state,
-        uuid: info.uuid,
-    })
-}
 
 impl Progress {
     /// The info that a finalization of the op writes, or `None` where no such op is open or one of its shards isn't done.

@@ -15,9 +15,8 @@ mod reports;
 mod tickets;
 
 pub use cleanup::lowest_open;
-pub use infos::{SnapInfos, info_copy};
+pub use infos::SnapInfos;
 pub use law::others_leave_the_list;
 pub use opening::Opening;
-pub use progress::{OpenLists, Progress, copy_deletes};
-pub use ready::copy_ops;
+pub use progress::{OpenLists, Progress};
 pub use tickets::Tickets;

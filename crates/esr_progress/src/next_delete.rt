@@ -11,10 +11,10 @@ ghost use Rattle.esr_progress.specs.Choice.{barred, delete_ready};
 
 use crate::Progress;
 use crate::cleanup::cleanup_waits;
-use crate::ready::copy_ops;
 use crate::tickets::Tickets;
 use esr_ops::{Copied, OpenDelete, OpenOp, ReadyUnit};
 use esr_root::RootData;
+use esr_seq::{TryClone, copies_of};
 use std::alloc::{AllocError, Global};
 
 impl Progress {
@@ -55,7 +55,7 @@ impl Progress {
             },
             work: delete.work(alloc)?,
         };
-        let ops = copy_ops(alloc, &self.ops)?;
+        let ops = copies_of(alloc, &self.ops)?;
         Ok(Some((
             self.with_seat(
                 alloc,

@@ -3,9 +3,9 @@ ghost use Rattle.std.specs.Prelude.{◌≡◌, ◌==◌, ◌<◌, ◌+◌, ◌^�
 ghost use Rattle.esr_ops.specs.Plan.{no_plan};
 ghost use Rattle.esr_ops.specs.Inside.{plan_with, IsProgress};
 
-use crate::ready::copy_ops;
 use crate::tickets::Tickets;
 use esr_ops::{OpenDelete, OpenOp, OpenRestore};
+use esr_seq::copies_of;
 use std::alloc::{AllocError, Global};
 use std::marker::Model;
 
@@ -103,35 +103,11 @@ impl Progress {
     pub fn copy(&self, alloc: Global) -> Result<Progress, AllocError>
         ensures { IfOk result (λ p. p ≡ self.now) }
     {
-        let ops = copy_ops(alloc, &self.ops)?;
-        let deletes = copy_deletes(alloc, &self.deletes)?;
-        let restores = copy_restores(alloc, &self.restores)?;
+        let ops = copies_of(alloc, &self.ops)?;
+        let deletes = copies_of(alloc, &self.deletes)?;
+        let restores = copies_of(alloc, &self.restores)?;
         self.with_entries(alloc, ops, deletes, restores, self.next_op)
     }
-}
-
-/// A copy of these deletes.
-pub fn copy_deletes(alloc: Global, deletes: &[OpenDelete]) -> Result<Vec<OpenDelete>, AllocError>
-    ensures { IfOk result (λ v. v.items ≡ deletes.now) }
-{
-    let mut copy = Vec::with_capacity(alloc, deletes.len())?;
-    for delete in deletes {
-        copy.push(delete.try_clone(alloc)?)?;
-    }
-    Ok(copy)
-}
-
-pub(crate) fn copy_restores(
-    alloc: Global,
-    restores: &[OpenRestore],
-) -> Result<Vec<OpenRestore>, AllocError>
-    ensures { IfOk result (λ v. v.items ≡ restores.now) }
-{
-    let mut copy = Vec::with_capacity(alloc, restores.len())?;
-    for restore in restores {
-        copy.push(restore.try_clone(alloc)?)?;
-    }
-    Ok(copy)
 }
 
 /// Where the restore of a number stands.

@@ -16,13 +16,13 @@ ghost use Rattle.esr_progress.specs.Choice.{is_going, goes_in, is_earliest, read
 
 use crate::Progress;
 use crate::next_delete::barred;
-use crate::progress::{copy_deletes, copy_restores};
 use crate::tickets::Tickets;
 use esr_names::{Id, ShardId};
 use esr_ops::{
     Copied, OpenDelete, OpenOp, OpenRestore, ReaderSeat, ReadyUnit, Seat, SeatKind, Work, later,
 };
 use esr_root::RootData;
+use esr_seq::{TryClone, copies_of};
 use std::alloc::{AllocError, Global};
 
 /// What is ready of an op: the shard at a place, its finalization, or that it leaves.
@@ -133,8 +133,8 @@ impl Progress {
           next_ticket = suc self.now.next_ticket;
         }) }
     {
-        let ops = copy_ops(alloc, &self.ops)?;
-        let deletes = copy_deletes(alloc, &self.deletes)?;
+        let ops = copies_of(alloc, &self.ops)?;
+        let deletes = copies_of(alloc, &self.deletes)?;
         let mut new = self.with_entries(alloc, ops, deletes, restores, self.next_op)?;
         new.tickets.give_reader(ReaderSeat { op, shard })?;
         Ok(new)
@@ -201,8 +201,8 @@ impl Progress {
           next_ticket = suc self.now.next_ticket;
         }) }
     {
-        let deletes = copy_deletes(alloc, &self.deletes)?;
-        let restores = copy_restores(alloc, &self.restores)?;
+        let deletes = copies_of(alloc, &self.deletes)?;
+        let restores = copies_of(alloc, &self.restores)?;
         let mut new = self.with_entries(alloc, ops, deletes, restores, self.next_op)?;
         new.tickets.give(Seat {
             kind,
@@ -260,7 +260,7 @@ fn given_restores(
     requires { at < length restores.now }
     ensures { IfOk result (λ v. IfSome (slice_get restores.now at) (λ e. v.items ≡ slice_set restores.now at (given_restore shard ticket e))) }
 {
-    let mut copy = copy_restores(alloc, restores)?;
+    let mut copy = copies_of(alloc, restores)?;
     copy[at].give(shard, ticket);
     Ok(copy)
 }
@@ -420,20 +420,9 @@ fn given_ops(
     requires { at < length ops.now }
     ensures { IfOk result (λ v. IfSome (slice_get ops.now at) (λ e. v.items ≡ slice_set ops.now at (given_entry kind ticket e))) }
 {
-    let mut copy = copy_ops(alloc, ops)?;
+    let mut copy = copies_of(alloc, ops)?;
     if let SeatKind::Shard { shard } = kind {
         copy[at].give(shard, ticket);
-    }
-    Ok(copy)
-}
-
-/// A copy of these ops.
-pub fn copy_ops(alloc: Global, ops: &[OpenOp]) -> Result<Vec<OpenOp>, AllocError>
-    ensures { IfOk result (λ v. v.items ≡ ops.now) }
-{
-    let mut copy = Vec::with_capacity(alloc, ops.len())?;
-    for op in ops {
-        copy.push(op.try_clone(alloc)?)?;
     }
     Ok(copy)
 }

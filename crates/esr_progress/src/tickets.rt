@@ -7,6 +7,7 @@ ghost use Rattle.esr_progress.specs.Choice.{first_number};
 ghost use Rattle.esr_progress.specs.TicketMaps.{no_tickets};
 
 use esr_ops::{ReaderSeat, Seat};
+use esr_seq::{TryClone, copies_of};
 use std::alloc::{AllocError, Global};
 use std::marker::Model;
 
@@ -83,14 +84,14 @@ impl SeatEntry {
     {
         self.seat = seat;
     }
+}
 
-    fn copy(&self) -> SeatEntry
-        ensures { result ≡ self.now }
-    {
-        SeatEntry {
+impl TryClone for SeatEntry {
+    fn try_clone(&self, _alloc: Global) -> Result<SeatEntry, AllocError> {
+        Ok(SeatEntry {
             ticket: self.ticket,
             seat: self.seat,
-        }
+        })
     }
 }
 
@@ -106,14 +107,14 @@ impl ReaderEntry {
     {
         self.reader
     }
+}
 
-    fn copy(&self) -> ReaderEntry
-        ensures { result ≡ self.now }
-    {
-        ReaderEntry {
+impl TryClone for ReaderEntry {
+    fn try_clone(&self, _alloc: Global) -> Result<ReaderEntry, AllocError> {
+        Ok(ReaderEntry {
             ticket: self.ticket,
             reader: self.reader,
-        }
+        })
     }
 }
 
@@ -141,8 +142,8 @@ impl Tickets {
         ensures { IfOk result (λ t. t ≡ self.now) }
     {
         Ok(Tickets {
-            seats: copy_seats(alloc, &self.seats)?,
-            readers: copy_readers(alloc, &self.readers)?,
+            seats: copies_of(alloc, &self.seats)?,
+            readers: copies_of(alloc, &self.readers)?,
             next: self.next,
         })
     }
@@ -281,24 +282,4 @@ fn first_ticket(seats: &[SeatEntry]) -> Option<u64>
         return None;
     };
     Some(entry.ticket())
-}
-
-fn copy_seats(alloc: Global, seats: &[SeatEntry]) -> Result<Vec<SeatEntry>, AllocError>
-    ensures { IfOk result (λ v. v.items ≡ seats.now) }
-{
-    let mut copy = Vec::with_capacity(alloc, seats.len())?;
-    for entry in seats {
-        copy.push(entry.copy())?;
-    }
-    Ok(copy)
-}
-
-fn copy_readers(alloc: Global, readers: &[ReaderEntry]) -> Result<Vec<ReaderEntry>, AllocError>
-    ensures { IfOk result (λ v. v.items ≡ readers.now) }
-{
-    let mut copy = Vec::with_capacity(alloc, readers.len())?;
-    for entry in readers {
-        copy.push(entry.copy())?;
-    }
-    Ok(copy)
 }

@@ -1,7 +1,7 @@
 //! The ops of a record.
-ghost use Rattle.std.specs.Prelude.{◌≡◌, IfOk};
 
-use esr_names::{Id, Ids, IndexRefs, SnapName, indices_copy};
+use esr_names::{Id, Ids, IndexRefs, SnapName};
+use esr_seq::TryClone;
 use std::alloc::{AllocError, Global};
 
 /// The snapshot that an op makes: its indices in the command's order, its moment, name and uuid.
@@ -50,13 +50,10 @@ impl Drop for RecordOp {
     }
 }
 
-impl Making {
-    /// A copy.
-    pub fn try_clone(&self, alloc: Global) -> Result<Making, AllocError>
-        ensures { IfOk result (λ m. m ≡ self.now) }
-    {
+impl TryClone for Making {
+    fn try_clone(&self, alloc: Global) -> Result<Making, AllocError> {
         Ok(Making {
-            indices: indices_copy(alloc, &self.indices)?,
+            indices: self.indices.try_clone(alloc)?,
             moment: self.moment,
             name: self.name.try_clone(alloc)?,
             uuid: self.uuid,
@@ -64,11 +61,8 @@ impl Making {
     }
 }
 
-impl OpWork {
-    /// A copy.
-    pub fn try_clone(&self, alloc: Global) -> Result<OpWork, AllocError>
-        ensures { IfOk result (λ w. w ≡ self.now) }
-    {
+impl TryClone for OpWork {
+    fn try_clone(&self, alloc: Global) -> Result<OpWork, AllocError> {
         match self {
             OpWork::Create { info } => Ok(OpWork::Create {
                 info: info.try_clone(alloc)?,
@@ -85,11 +79,8 @@ impl OpWork {
     }
 }
 
-impl RecordOp {
-    /// A copy.
-    pub fn try_clone(&self, alloc: Global) -> Result<RecordOp, AllocError>
-        ensures { IfOk result (λ o. o ≡ self.now) }
-    {
+impl TryClone for RecordOp {
+    fn try_clone(&self, alloc: Global) -> Result<RecordOp, AllocError> {
         Ok(RecordOp {
             op: self.op,
             work: self.work.try_clone(alloc)?,

@@ -1,9 +1,10 @@
 //! The list of a record's ops.
-ghost use Rattle.std.specs.Prelude.{◌≡◌, ◌==◌, ◌++◌, ◌∷◌, [], not, IfErr, IfOk, OnErr, OnOk};
+ghost use Rattle.std.specs.Prelude.{◌≡◌, ◌==◌, ◌++◌, ◌∷◌, [], not, IfErr, OnErr, OnOk};
 ghost use Rattle.std.specs.List.{filter};
 ghost use Rattle.esr_record.specs.Op.{IsOp, AreOps, last_op};
 
 use crate::RecordOp;
+use esr_seq::{TryClone, copies_of};
 use std::alloc::{AllocError, AllocFailed, Global};
 use std::marker::Model;
 
@@ -70,15 +71,12 @@ impl RecordOps {
     {
         self.items.as_slice()
     }
+}
 
-    /// A copy.
-    pub fn try_clone(&self, alloc: Global) -> Result<RecordOps, AllocError>
-        ensures { IfOk result (λ ops. ops ≡ self.now) }
-    {
-        let mut items = Vec::with_capacity(alloc, self.items.len())?;
-        for op in &self.items {
-            items.push(op.try_clone(alloc)?)?;
-        }
-        Ok(RecordOps { items })
+impl TryClone for RecordOps {
+    fn try_clone(&self, alloc: Global) -> Result<RecordOps, AllocError> {
+        Ok(RecordOps {
+            items: copies_of(alloc, &self.items)?,
+        })
     }
 }

@@ -1,7 +1,8 @@
 //! The cluster record.
-ghost use Rattle.std.specs.Prelude.{◌≡◌, [], negsuc, IfOk};
+ghost use Rattle.std.specs.Prelude.{◌≡◌, [], negsuc};
 
 use crate::RecordOps;
+use esr_seq::TryClone;
 use std::alloc::{AllocError, Global};
 use std::marker::Model;
 
@@ -37,11 +38,10 @@ impl ClusterRecord {
             term: 0,
         }
     }
+}
 
-    /// A copy.
-    pub fn try_clone(&self, alloc: Global) -> Result<ClusterRecord, AllocError>
-        ensures { IfOk result (λ r. r ≡ self.now) }
-    {
+impl TryClone for ClusterRecord {
+    fn try_clone(&self, alloc: Global) -> Result<ClusterRecord, AllocError> {
         Ok(ClusterRecord {
             ops: self.ops.try_clone(alloc)?,
             pending: self.pending,

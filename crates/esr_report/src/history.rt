@@ -15,6 +15,7 @@ use crate::{Replies, Reply};
 use esr_desk::{Answer, Entry, EntryRefusal, History, Prune, Read, Step, Why};
 use esr_ops::Command;
 use esr_script::{Item, Kind, Script};
+use esr_seq::TryClone;
 use std::alloc::{AllocError, Global};
 
 /// The cluster record has the op of the command.

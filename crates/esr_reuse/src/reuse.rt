@@ -5,7 +5,7 @@ ghost use Rattle.esr_formats.specs.Shards.{entry_of, shard_index_of};
 ghost use Rattle.esr_reuse.specs.Plans.{IsPlan};
 
 use esr_hash::Print;
-use esr_seq::Seq;
+use esr_seq::{Seq, TryClone};
 use esr_shardidx::{FileEntry, PhysicalName, ShardIndex};
 use std::alloc::{AllocError, Global};
 

@@ -8,7 +8,7 @@ ghost use Rattle.esr_root.specs.Changes.{MayAdd, add_of, first, with_index, with
 use crate::read::keep;
 use crate::{Generations, RootData, RootIndex, RootIndices, RootSnap, generations};
 use esr_names::{Id, Ids, IndexName, IndexRef, IndexRefs};
-use esr_seq::Seq;
+use esr_seq::{Seq, TryClone};
 use std::alloc::{AllocError, Global};
 use std::cmp::Ordering;
 

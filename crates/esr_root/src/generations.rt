@@ -3,7 +3,7 @@ ghost use Rattle.std.specs.Prelude.{◌≡◌, ◌<◌, ◌≤◌, ◌^◌, [], 
 ghost use Rattle.esr_root.specs.Generations.{AreGenerations, IsGeneration, generation_in, padded, with_generation};
 
 use esr_names::Id;
-use esr_seq::Seq;
+use esr_seq::{Seq, TryClone};
 use std::alloc::{AllocError, Global};
 use std::marker::Model;
 
@@ -57,14 +57,6 @@ impl Generations {
         self.items.as_slice().get(shard as usize).copied().flatten()
     }
 
-    pub fn try_clone(&self, alloc: Global) -> Result<Generations, AllocError>
-        ensures { IfOk result (λ g. g ≡ self.now) }
-    {
-        Ok(Generations {
-            items: Seq::from_slice(alloc, self.items.as_slice())?,
-        })
-    }
-
     /// None at the end, as far as so many shards need it.
     pub(crate) fn padded(&self, alloc: Global, shards: u32) -> Result<Generations, AllocError>
         requires { shards ≤ 1024 }
@@ -92,6 +84,14 @@ impl Generations {
         items[shard as usize] = to;
         Ok(Generations {
             items: Seq::from_vec(items),
+        })
+    }
+}
+
+impl TryClone for Generations {
+    fn try_clone(&self, alloc: Global) -> Result<Generations, AllocError> {
+        Ok(Generations {
+            items: Seq::from_slice(alloc, self.items.as_slice())?,
         })
     }
 }

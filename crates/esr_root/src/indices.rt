@@ -6,7 +6,7 @@ ghost use Rattle.esr_root.specs.Indices.{AreIndices};
 use crate::Generations;
 use crate::read::has_id;
 use esr_names::{Id, Ids, IndexName};
-use esr_seq::Seq;
+use esr_seq::{Seq, TryClone};
 use std::alloc::{AllocError, Global};
 use std::marker::Model;
 
@@ -31,10 +31,8 @@ impl Drop for RootIndex {
     }
 }
 
-impl RootIndex {
-    pub fn try_clone(&self, alloc: Global) -> Result<RootIndex, AllocError>
-        ensures { IfOk result (λ i. i ≡ self.now) }
-    {
+impl TryClone for RootIndex {
+    fn try_clone(&self, alloc: Global) -> Result<RootIndex, AllocError> {
         Ok(RootIndex {
             name: self.name.try_clone(alloc)?,
             id: self.id,
@@ -139,14 +137,12 @@ impl RootIndices {
     {
         self.items.as_slice()
     }
+}
 
-    pub fn try_clone(&self, alloc: Global) -> Result<RootIndices, AllocError>
-        ensures { IfOk result (λ i. i ≡ self.now) }
-    {
-        let mut items = Seq::new(alloc);
-        for index in self.as_slice() {
-            items.push(index.try_clone(alloc)?)?;
-        }
-        Ok(RootIndices { items })
+impl TryClone for RootIndices {
+    fn try_clone(&self, alloc: Global) -> Result<RootIndices, AllocError> {
+        Ok(RootIndices {
+            items: self.items.try_clone(alloc)?,
+        })
     }
 }

@@ -1,5 +1,5 @@
 //! What a root lists.
-ghost use Rattle.std.specs.Prelude.{◌≡◌, IfOk};
+ghost use Rattle.std.specs.Prelude.{◌≡◌};
 ghost use Rattle.std.specs.List.{AllByRecursion};
 ghost use Rattle.esr_root.specs.Indices.{IsListed};
 ghost use Rattle.esr_root.specs.Root.{empty_root, IsRoot};
@@ -7,6 +7,7 @@ ghost use Rattle.esr_root.specs.Changes.{generation_among, generation_at};
 
 use crate::{RootIndex, RootIndices, RootSnaps};
 use esr_names::{Id, IndexName};
+use esr_seq::TryClone;
 use std::alloc::{AllocError, Global};
 use std::marker::Model;
 
@@ -66,19 +67,19 @@ impl RootData {
         let _ = &self.snapshots;
     }
 
-    pub fn try_clone(&self, alloc: Global) -> Result<RootData, AllocError>
-        ensures { IfOk result (λ r. r ≡ self.now) }
-    {
-        let snapshots = self.snapshots.try_clone(alloc)?;
-        let indices = self.indices.try_clone(alloc)?;
-        Ok(RootData { snapshots, indices })
-    }
-
     /// The generation of a shard of an index: none also where the root has no index of the name.
     pub fn generation(&self, index: &IndexName, shard: u32) -> Option<Id>
         ensures { result ≡ generation_at self.now index.now shard }
     {
         generation_among(self.indices.as_slice(), index, shard)
+    }
+}
+
+impl TryClone for RootData {
+    fn try_clone(&self, alloc: Global) -> Result<RootData, AllocError> {
+        let snapshots = self.snapshots.try_clone(alloc)?;
+        let indices = self.indices.try_clone(alloc)?;
+        Ok(RootData { snapshots, indices })
     }
 }
 

@@ -6,7 +6,7 @@ ghost use Rattle.esr_root.specs.Snaps.{AreSnaps, IsSnap, clashes, lists};
 
 use crate::read::has_id;
 use esr_names::{Id, SnapName};
-use esr_seq::Seq;
+use esr_seq::{Seq, TryClone};
 use std::alloc::{AllocError, AllocFailed, Global};
 use std::marker::Model;
 
@@ -39,10 +39,10 @@ impl RootSnap {
         let _uuid = self.uuid.number;
         let _state = self.state;
     }
+}
 
-    pub fn try_clone(&self, alloc: Global) -> Result<RootSnap, AllocError>
-        ensures { IfOk result (λ s. s ≡ self.now) }
-    {
+impl TryClone for RootSnap {
+    fn try_clone(&self, alloc: Global) -> Result<RootSnap, AllocError> {
         Ok(RootSnap {
             name: self.name.try_clone(alloc)?,
             uuid: self.uuid,
@@ -96,16 +96,6 @@ impl RootSnaps {
         self.items.as_slice()
     }
 
-    pub fn try_clone(&self, alloc: Global) -> Result<RootSnaps, AllocError>
-        ensures { IfOk result (λ s. s ≡ self.now) }
-    {
-        let mut items = Seq::new(alloc);
-        for snap in self.as_slice() {
-            items.push(snap.try_clone(alloc)?)?;
-        }
-        Ok(RootSnaps { items })
-    }
-
     /// The snapshots whose uuids are none of these.
     pub(crate) fn without(&self, alloc: Global, uuids: &[Id]) -> Result<RootSnaps, AllocError>
         ensures { IfOk result (λ s. s ≡ filter (λ s. not (has_id s.uuid uuids.now)) self.now) }
@@ -117,5 +107,13 @@ impl RootSnaps {
             }
         }
         Ok(RootSnaps { items })
+    }
+}
+
+impl TryClone for RootSnaps {
+    fn try_clone(&self, alloc: Global) -> Result<RootSnaps, AllocError> {
+        Ok(RootSnaps {
+            items: self.items.try_clone(alloc)?,
+        })
     }
 }

@@ -5,9 +5,9 @@ ghost use Rattle.esr_ops.specs.Asked.{asked_of, asked_index_of};
 ghost use Rattle.esr_complete.specs.Lines.{index_of_line, command_of_line};
 
 use esr_names::{SnapName, SnapNames};
-use esr_ops::{AskedIndex, AskedIndices, Command, snap_names_copy};
+use esr_ops::{AskedIndex, AskedIndices, Command};
 use esr_script::AskedIndex as LineIndex;
-use esr_seq::Seq;
+use esr_seq::{Seq, TryClone};
 use std::alloc::{AllocError, Global};
 
 fn index_of(alloc: Global, index: &LineIndex) -> Result<AskedIndex, AllocError>
@@ -50,6 +50,6 @@ pub(crate) fn snapshot_of(
 pub(crate) fn delete_of(alloc: Global, names: &SnapNames) -> Result<Command, AllocError>
     ensures { IfOk result (λ c. asked_of c ≡ DeleteSnapshots names.now) }
 {
-    let names = snap_names_copy(alloc, names)?;
+    let names = names.try_clone(alloc)?;
     Ok(Command::Delete { names })
 }

@@ -4,6 +4,7 @@ ghost use Rattle.std.specs.Cmp.{partial_equiv_from_equiv};
 ghost use Rattle.std.specs.Cmp.Lexicographic.{slice_cmp, nat_list_eq_equiv, nat_list_cmp_total, texts_ties, texts_po};
 ghost use Rattle.std.specs.Ordering.{nat_cmp};
 
+use crate::TryClone;
 use std::alloc::{AllocError, Global};
 use std::cmp::Ordering;
 use std::marker::Model;
@@ -88,13 +89,6 @@ impl Bytes {
         self.bytes.extend_from_slice(bytes)
     }
 
-    /// A copy of the bytes.
-    pub fn try_clone(&self, alloc: Global) -> Result<Bytes, AllocError>
-        ensures { IfOk result (λ b. b ≡ self.now) }
-    {
-        Bytes::from_slice(alloc, self.as_slice())
-    }
-
     pub fn as_slice(&self) -> &[u8]
         ensures { result.now ≡ self.now }
     {
@@ -111,6 +105,12 @@ impl Bytes {
         ensures { result ≡ (length self.now == 0) }
     {
         self.bytes.is_empty()
+    }
+}
+
+impl TryClone for Bytes {
+    fn try_clone(&self, alloc: Global) -> Result<Bytes, AllocError> {
+        Bytes::from_slice(alloc, self.as_slice())
     }
 }
 

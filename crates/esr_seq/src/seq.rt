@@ -3,6 +3,7 @@ ghost use Rattle.std.specs.Prelude.{◌≡◌, ◌++◌, ◌∷◌, ◌==◌, �
 ghost use Rattle.std.specs.List.{insert};
 ghost use Rattle.std.specs.Option.{option_to_list};
 
+use crate::{TryClone, copies_of};
 use std::alloc::{AllocError, AllocFailed, Global};
 use std::marker::Model;
 
@@ -124,5 +125,13 @@ impl<T: Copy> Seq<T> {
         ensures err { OnErr result (self.new ≡ self.old) }
     {
         self.items.extend_from_slice(items)
+    }
+}
+
+impl<T: TryClone> TryClone for Seq<T> {
+    fn try_clone(&self, alloc: Global) -> Result<Seq<T>, AllocError> {
+        Ok(Seq {
+            items: copies_of(alloc, &self.items)?,
+        })
     }
 }

@@ -5,6 +5,7 @@ ghost use Rattle.std.specs.Cmp.Lexicographic.{slice_cmp, nat_list_eq_equiv, nat_
 ghost use Rattle.std.specs.Ordering.{nat_cmp};
 ghost use Rattle.std.specs.Str.{IsUtf8};
 
+use crate::TryClone;
 use std::alloc::{AllocError, Global};
 use std::cmp::Ordering;
 use std::marker::Model;
@@ -72,13 +73,6 @@ impl Text {
         self.text.push_str(text)
     }
 
-    /// A copy of the text.
-    pub fn try_clone(&self, alloc: Global) -> Result<Text, AllocError>
-        ensures { IfOk result (λ t. t ≡ self.now) }
-    {
-        Text::from_str(alloc, self.as_str())
-    }
-
     pub fn as_str(&self) -> &str
         ensures text { result.now ≡ self.now }
         ensures utf8 { IsUtf8 self.now }
@@ -97,6 +91,12 @@ impl Text {
         ensures { result ≡ (length self.now == 0) }
     {
         self.text.is_empty()
+    }
+}
+
+impl TryClone for Text {
+    fn try_clone(&self, alloc: Global) -> Result<Text, AllocError> {
+        Text::from_str(alloc, self.as_str())
     }
 }
 

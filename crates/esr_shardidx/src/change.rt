@@ -10,29 +10,9 @@ use crate::marks::{is_there, mark_files, marked_copies, set_of};
 use crate::reading::has_list;
 use crate::{FileEntry, ShardIndex, ShardSnap, SnapList, SnapLists};
 use esr_names::{Id, Ids};
-use esr_seq::Seq;
+use esr_seq::{Seq, TryClone, copies_of};
 use std::alloc::{AllocError, Global};
 use std::collections::BTreeSet;
-
-fn copied_entries(alloc: Global, entries: &[FileEntry]) -> Result<Vec<FileEntry>, AllocError>
-    ensures { IfOk result (λ v. v.items ≡ entries.now) }
-{
-    let mut copy = Vec::new(alloc);
-    for entry in entries {
-        copy.push(entry.try_clone(alloc)?)?;
-    }
-    Ok(copy)
-}
-
-fn copied_lists(alloc: Global, lists: &[SnapList]) -> Result<SnapLists, AllocError>
-    ensures { IfOk result (λ v. v ≡ lists.now) }
-{
-    let mut copy = Seq::new(alloc);
-    for list in lists {
-        copy.push(list.try_clone(alloc)?)?;
-    }
-    Ok(copy)
-}
 
 fn names_of(alloc: Global, entries: &[FileEntry]) -> Result<Ids, AllocError>
     ensures { IfOk result (λ v. v ≡ map name_of entries.now) }
@@ -81,7 +61,7 @@ fn with_files(
     requires differ { repeats (map name_of more.now) ≡ false }
     ensures { IfOk result (λ v. v.items ≡ insert_files entries.now more.now) }
 {
-    let mut files = copied_entries(alloc, entries)?;
+    let mut files = copies_of(alloc, entries)?;
     add_fresh(alloc, &mut files, entries, more)?;
     files.sort_by_key(|file| file.name.number)?;
     Ok(files)
@@ -130,15 +110,6 @@ fn marks_of(
 }
 
 impl ShardIndex {
-    /// A copy of the index.
-    pub fn try_clone(&self, alloc: Global) -> Result<ShardIndex, AllocError>
-        ensures { IfOk result (λ i. i ≡ self.now) }
-    {
-        let files = Seq::from_vec(copied_entries(alloc, self.files())?);
-        let snapshots = copied_lists(alloc, self.snapshots())?;
-        Ok(ShardIndex { files, snapshots })
-    }
-
     /// The index with a snapshot added after the others, and with those of its files whose ids it
     /// doesn't have yet. An index that has the snapshot already stays as it is.
     pub fn with_snap(&self, alloc: Global, snap: &ShardSnap) -> Result<ShardIndex, AllocError>
@@ -148,7 +119,7 @@ impl ShardIndex {
             return self.try_clone(alloc);
         }
         let files = with_files(alloc, self.files(), snap.files())?;
-        let mut snapshots = copied_lists(alloc, self.snapshots())?;
+        let mut snapshots = Seq::from_vec(copies_of(alloc, self.snapshots())?);
         snapshots.push(list_of_snap(alloc, snap)?)?;
         Ok(ShardIndex {
             files: Seq::from_vec(files),
@@ -163,6 +134,14 @@ impl ShardIndex {
         let snapshots = listed_of(alloc, self.snapshots(), listed.as_slice())?;
         let marks = marks_of(alloc, self.files(), snapshots.as_slice())?;
         let files = marked_copies(alloc, self.files(), marks.as_slice())?;
+        Ok(ShardIndex { files, snapshots })
+    }
+}
+
+impl TryClone for ShardIndex {
+    fn try_clone(&self, alloc: Global) -> Result<ShardIndex, AllocError> {
+        let files = self.files.try_clone(alloc)?;
+        let snapshots = self.snapshots.try_clone(alloc)?;
         Ok(ShardIndex { files, snapshots })
     }
 }

@@ -1,10 +1,9 @@
 //! The entries of stored files.
-ghost use Rattle.std.specs.Prelude.{◌≡◌, IfOk};
 
 use crate::PhysicalName;
 use esr_hash::Print;
 use esr_names::Id;
-use esr_seq::Seq;
+use esr_seq::{Seq, TryClone};
 use std::alloc::{AllocError, Global};
 
 /// A stored file of a shard.
@@ -35,11 +34,8 @@ impl Drop for FileEntry {
 /// Entries in order.
 pub type FileEntries = Seq<FileEntry>;
 
-impl FileEntry {
-    /// A copy of the entry.
-    pub fn try_clone(&self, alloc: Global) -> Result<FileEntry, AllocError>
-        ensures { IfOk result (λ e. e ≡ self.now) }
-    {
+impl TryClone for FileEntry {
+    fn try_clone(&self, alloc: Global) -> Result<FileEntry, AllocError> {
         Ok(FileEntry {
             name: self.name,
             physical: self.physical.try_clone(alloc)?,

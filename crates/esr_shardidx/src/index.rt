@@ -1,5 +1,5 @@
 //! The index of a shard.
-ghost use Rattle.std.specs.Prelude.{◌≡◌, [], find, IfOk};
+ghost use Rattle.std.specs.Prelude.{◌≡◌, [], find};
 ghost use Rattle.std.specs.Option.{option_copied};
 ghost use Rattle.esr_shardidx.specs.Snapshots.{has_name};
 ghost use Rattle.esr_shardidx.specs.Indices.{has_uuid, is_same, IsShardIndex};
@@ -7,7 +7,7 @@ ghost use Rattle.esr_shardidx.specs.Indices.{has_uuid, is_same, IsShardIndex};
 use crate::{FileEntries, FileEntry, PhysicalName};
 use esr_hash::Print;
 use esr_names::{Id, Ids};
-use esr_seq::Seq;
+use esr_seq::{Seq, TryClone};
 use std::alloc::{AllocError, Global};
 use std::marker::Model;
 
@@ -30,11 +30,8 @@ impl Drop for SnapList {
     }
 }
 
-impl SnapList {
-    /// A copy of the list.
-    pub fn try_clone(&self, alloc: Global) -> Result<SnapList, AllocError>
-        ensures { IfOk result (λ l. l ≡ self.now) }
-    {
+impl TryClone for SnapList {
+    fn try_clone(&self, alloc: Global) -> Result<SnapList, AllocError> {
         Ok(SnapList {
             files: Ids::from_slice(alloc, self.files.as_slice())?,
             uuid: self.uuid,

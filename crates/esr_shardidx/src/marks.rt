@@ -14,7 +14,7 @@ use crate::trail::Trail;
 use crate::{FileEntries, FileEntry, SnapList};
 use esr_json::{ReadRefusal, Reason};
 use esr_names::Id;
-use esr_seq::Seq;
+use esr_seq::{Seq, TryClone};
 use std::alloc::{AllocError, Global};
 use std::collections::BTreeSet;
 

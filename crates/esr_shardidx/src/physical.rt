@@ -3,6 +3,7 @@ ghost use Rattle.std.specs.Prelude.{◌≡◌, true, false, IfOk, IfErr};
 ghost use Rattle.std.specs.List.{list_all};
 ghost use Rattle.esr_shardidx.specs.FileNames.{is_name_byte, is_relative, is_file_name, IsRefused};
 
+use esr_seq::TryClone;
 use std::alloc::{AllocError, Global};
 use std::marker::Model;
 
@@ -97,11 +98,10 @@ impl PhysicalName {
     {
         self.text.as_str()
     }
+}
 
-    /// A copy of the name.
-    pub fn try_clone(&self, alloc: Global) -> Result<PhysicalName, AllocError>
-        ensures { IfOk result (λ n. n ≡ self.now) }
-    {
+impl TryClone for PhysicalName {
+    fn try_clone(&self, alloc: Global) -> Result<PhysicalName, AllocError> {
         let text = String::from_str(alloc, self.text.as_str())?;
         Ok(PhysicalName { text })
     }

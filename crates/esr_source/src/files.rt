@@ -3,7 +3,7 @@ ghost use Rattle.std.specs.Prelude.{◌≡◌, IfOk, IsTrue, None, map};
 ghost use Rattle.std.specs.List.{list_all};
 ghost use Rattle.esr_source.specs.Files.{IsListing, is_listing, is_listed, is_file_name, is_dots, is_name_byte, is_rising, listed_of, told_file};
 
-use esr_seq::{Bytes, Seq, Text};
+use esr_seq::{Bytes, Seq, Text, TryClone};
 use std::alloc::{AllocError, Global};
 
 /// A file that is listed, by its name and its length in bytes.
@@ -11,6 +11,15 @@ use std::alloc::{AllocError, Global};
 pub struct ListedFile {
     pub name: Text,
     pub length: u64,
+}
+
+impl TryClone for ListedFile {
+    fn try_clone(&self, alloc: Global) -> Result<ListedFile, AllocError> {
+        Ok(ListedFile {
+            name: self.name.try_clone(alloc)?,
+            length: self.length,
+        })
+    }
 }
 
 /// The files of a shard, in the byte order of their names.
@@ -31,6 +40,15 @@ impl MemFile {
         Ok(MemFile {
             name: Text::from_str(alloc, name)?,
             bytes: Bytes::from_slice(alloc, bytes)?,
+        })
+    }
+}
+
+impl TryClone for MemFile {
+    fn try_clone(&self, alloc: Global) -> Result<MemFile, AllocError> {
+        Ok(MemFile {
+            name: self.name.try_clone(alloc)?,
+            bytes: self.bytes.try_clone(alloc)?,
         })
     }
 }
@@ -124,18 +142,4 @@ pub(crate) fn listing_of(alloc: Global, files: &[MemFile]) -> Result<Files, Allo
         })?;
     }
     Ok(listing)
-}
-
-/// A copy of the files.
-pub(crate) fn copy_of(alloc: Global, files: &[MemFile]) -> Result<Seq<MemFile>, AllocError>
-    ensures { IfOk result (λ copy. copy ≡ files.now) }
-{
-    let mut copy = Seq::new(alloc);
-    for file in files {
-        copy.push(MemFile {
-            name: file.name.try_clone(alloc)?,
-            bytes: file.bytes.try_clone(alloc)?,
-        })?;
-    }
-    Ok(copy)
 }

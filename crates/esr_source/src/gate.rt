@@ -1,19 +1,15 @@
-//! What is told of a run's progress while it runs.
+//! What is told of a worker while it writes.
 
-/// Where a worker is with its ticket.
+/// Where a worker is with the stage of a part.
 #[derive(Clone, Copy, Debug)]
 pub enum Point {
-    /// It has taken the ticket.
-    Taken { ticket: u64 },
-    /// It is about to write to the stage of a part.
+    /// It is about to write to it.
     Writing { ticket: u64 },
-    /// It has written to the stage of a part.
+    /// It has written to it.
     Written { ticket: u64 },
-    /// The ticket has ended.
-    Ended { ticket: u64 },
 }
 
-/// Is told where each worker is, and may hold it there for a while.
+/// Is told of each write of a part, before and after it, and may hold the worker there for a while.
 pub trait Gate: Sync {
     fn at(&self, point: Point);
 }

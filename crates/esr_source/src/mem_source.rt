@@ -6,12 +6,12 @@ ghost use Rattle.esr_source.specs.Plan.{is_unplanned};
 ghost use Rattle.esr_source.specs.Address.{address};
 
 use crate::address::Address;
-use crate::files::{Files, MemFile, copy_of, is_listing, listing_of};
+use crate::files::{Files, MemFile, is_listing, listing_of};
 use crate::plan::{Call, FailingAt, Meter, plan_at};
 use crate::source::{New, Shard, Sources};
 use crate::unread::Unread;
 use esr_depot::{CallError, Counted, Failed};
-use esr_seq::{Bytes, Seq};
+use esr_seq::{Bytes, Seq, TryClone, copies_of};
 use std::alloc::{AllocError, Global};
 
 /// The files of one shard in memory.
@@ -58,7 +58,7 @@ impl MemSources {
         if !is_listing(listing.as_slice()) {
             return Ok(None);
         }
-        Ok(Some(copy_of(alloc, files)?))
+        Ok(Some(Seq::from_vec(copies_of(alloc, files)?)))
     }
 }
 

@@ -171,6 +171,56 @@ may_refuse_raise s log k seat r e refusal can seat_is r_is answer stale spent = 
         by (GenerationsSpent (world_of s log).pending) (sym (spent r.pending h.2 ∙ ap GenerationsSpent (ap (λ (c : ClusterRecord). c.ledger.pending) r_is)))
         (record { plain = refl; allows = λ image tells same. RaiseSpent k image (raising s log k can) (sym own_is ∙ h.0 ∙ term_is) (omega arith) same })
 
+-- ---- why it isn't
+
+ok_err : (n : ℤ) (e : RecordRefusal) → ◌≡◌ {A = Result ℤ RecordRefusal} (Ok n) (Err e) → ⊥
+ok_err n e q = cc
+
+raise_term : (own : ℕ) (r : Record) (n : ℤ) → ◌≡◌ {A = Result ℤ RecordRefusal} (Ok n) (record_raised own r) → own ≡ r.term
+raise_term own r n is = go (own == r.term) refl is
+  where
+    go : (b : Bool) → (own == r.term) ≡ b
+        → ◌≡◌ {A = Result ℤ RecordRefusal} (Ok n) (if b then (if int_eq r.pending (pos (2 ^ 63 - 1)) then Err (records.GenerationsSpent r.pending) else Ok (r.pending +ℤ pos 1)) else Err (records.StaleTerm own r.term))
+        → own ≡ r.term
+    go true q e = eqb-true own r.term q
+    go false q e = absurd (ok_err n (records.StaleTerm own r.term) e)
+
+raise_not_last : (own : ℕ) (r : Record) (n : ℤ) → ◌≡◌ {A = Result ℤ RecordRefusal} (Ok n) (record_raised own r) → r.pending ≡ pos (2 ^ 63 - 1) → ⊥
+raise_not_last own r n is last = by_term (own == r.term) is
+  where
+    swapped : true ≡ false → ⊥
+    swapped q = cc
+
+    by_pending : (c : Bool) → int_eq r.pending (pos (2 ^ 63 - 1)) ≡ c → ◌≡◌ {A = Result ℤ RecordRefusal} (Ok n) (if c then Err (records.GenerationsSpent r.pending) else Ok (r.pending +ℤ pos 1)) → ⊥
+    by_pending true q e = ok_err n (records.GenerationsSpent r.pending) e
+    by_pending false q e = swapped (sym ((Decides-int_eq r.pending (pos (2 ^ 63 - 1))).1 last) ∙ q)
+
+    by_term : (b : Bool)
+        → ◌≡◌ {A = Result ℤ RecordRefusal} (Ok n) (if b then (if int_eq r.pending (pos (2 ^ 63 - 1)) then Err (records.GenerationsSpent r.pending) else Ok (r.pending +ℤ pos 1)) else Err (records.StaleTerm own r.term))
+        → ⊥
+    by_term true e = by_pending (int_eq r.pending (pos (2 ^ 63 - 1))) refl e
+    by_term false e = ok_err n (records.StaleTerm own r.term) e
+
+below_last : (z : ℤ) → z ≤ℤ pos (2 ^ 63 - 1) → (z ≡ pos (2 ^ 63 - 1) → ⊥) → count_of z < 2 ^ 63
+below_last (pos n) most other =
+    let differ : n ≡ 2 ^ 63 - 1 → ⊥ = λ same. other (ap pos same) in
+    let below : suc n < 2 ^ 63 = omega (arith, ints, differ) in
+    below
+below_last (negsuc n) most other =
+    let below : 0 < 2 ^ 63 = omega arith in
+    below
+
+-- the ticket is of the present term
+pub raise_present : (s : Start) (log : List Moment) (k : ℕ) (seat : Seat) (r : Record) (n : ℤ) → seat ≡ seat_of (ticket_of s log k) → cluster_of r ≡ record_of (world_of s log)
+    → ◌≡◌ {A = Result ℤ RecordRefusal} (Ok n) (record_raised seat.term r) → (ticket_of s log k).term ≡ (world_of s log).term
+raise_present s log k seat r n seat_is r_is is = sym (ap (λ (x : Seat). x.term) seat_is) ∙ raise_term seat.term r n is ∙ ap (λ (c : ClusterRecord). c.ledger.term) r_is
+
+-- a generation is left
+pub raise_room : (w : World) (own : ℕ) (r : Record) (n : ℤ) (generation : ℕ) → cluster_of r ≡ record_of w → AreNumbers r.pending r.safe r.term
+    → ◌≡◌ {A = Result ℤ RecordRefusal} (Ok n) (record_raised own r) → generation ≡ w.pending → generation < 2 ^ 63
+raise_room w own r n generation r_is numbers is same =
+    subst (λ (m : ℕ). m < 2 ^ 63) (ap (λ (c : ClusterRecord). c.ledger.pending) r_is ∙ sym same) (below_last r.pending numbers.most (raise_not_last own r n is))
+
 -- ---- the ticket
 
 pub raised_ticket : (s : Start) (old mid new : List Moment) (k n : ℕ) → mid ≡ old → n ≡ (world_of s mid).pending → CanRaise s (ticket_of s old k) → Added s mid new k RaiseStep (RaisedTo n)

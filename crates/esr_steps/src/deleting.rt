@@ -26,11 +26,11 @@ use esr_formats::write_root;
 use esr_meta::SnapInfo;
 use esr_names::{BlobName, Id, Ids};
 use esr_newroot::deleted;
-use esr_progress::{SnapInfos, info_copy};
+use esr_progress::SnapInfos;
 use esr_repo::{Renewed, Repo, Told, with_ops};
 use esr_results::{PrunedShard, PrunedShards};
 use esr_root::{RootData, RootSnap};
-use esr_seq::Seq;
+use esr_seq::{Seq, TryClone};
 use std::alloc::{AllocError, Global};
 
 /// The step that plans.
@@ -83,7 +83,7 @@ fn left_infos(
     let mut left = SnapInfos::new(alloc);
     for info in infos {
         if lists(listing, info.uuid) {
-            left.push(info_copy(alloc, info)?)?;
+            left.push(info.try_clone(alloc)?)?;
         }
     }
     Ok(left)

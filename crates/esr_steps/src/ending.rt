@@ -20,6 +20,7 @@ use esr_desk::{Answer, EntryRefusal, Read, Step, StepRefusal};
 use esr_repo::{Repo, Told, entry_refusal};
 use esr_results::ShardResult;
 use esr_root::RootData;
+use esr_seq::TryClone;
 use std::alloc::Global;
 
 /// Begins a generation for the root that the ticket is to write, and answers it.

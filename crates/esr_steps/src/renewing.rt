@@ -17,6 +17,7 @@ use esr_meta::SnapInfo;
 use esr_record::ClusterRecord;
 use esr_repo::{Renewed, Repo, Told, with_ops};
 use esr_root::RootData;
+use esr_seq::TryClone;
 use std::alloc::{AllocError, Global};
 
 /// How many generations there are up to this one, which is -1 before the first.

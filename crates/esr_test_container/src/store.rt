@@ -5,7 +5,7 @@ ghost use Rattle.esr_depot.specs.Untold.{untold};
 
 use crate::blob::{NewBlob, OpenBlob};
 use esr_depot::{CallError, Commit, Counted, Depot, Failed, Names, Pages, page_of};
-use esr_seq::{Bytes, Text};
+use esr_seq::{Bytes, Text, TryClone};
 use std::alloc::Global;
 use std::collections::BTreeMap;
 

@@ -14,6 +14,7 @@ use esr_names::{Id, Ids, ShardId};
 use esr_results::ShardResults;
 use esr_root::root_read;
 use esr_scenes::Words;
+use esr_seq::TryClone;
 use std::alloc::Global;
 
 fn shard_number(words: &mut Words) -> u32 {

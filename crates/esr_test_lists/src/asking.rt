@@ -12,7 +12,7 @@ use esr_names::{Id, IndexName, IndexNames, SnapName};
 use esr_ops::{Accepted, AskedIndex, AskedIndices, Command, Refusal};
 use esr_scenes::{Words, one, say, say_number};
 use esr_script::{AskedIndex as LineIndex, Item};
-use esr_seq::Text;
+use esr_seq::{Text, TryClone};
 use std::alloc::Global;
 
 /// The number of an op, or why there is none.

@@ -22,7 +22,7 @@ use esr_progress::Progress;
 use esr_results::ShardResult;
 use esr_root::RootData;
 use esr_scenes::{one, say, say_bytes, say_number};
-use esr_seq::Text;
+use esr_seq::{Text, TryClone};
 use std::alloc::{AllocError, Global};
 use std::marker::Model;
 

@@ -7,7 +7,7 @@ use esr_depot::{CallError, Commit, Counted, Depot, Fetch, Listed, Names, PAGE, S
 use esr_scenes::{
     cut, one, say, say_bytes, say_faults, say_length, say_number, say_success, unquoted,
 };
-use esr_seq::{Seq, Text};
+use esr_seq::{Seq, Text, TryClone};
 use std::alloc::{AllocError, Global};
 
 /// What a call says in a word, after what it has added to a line.

@@ -5,6 +5,8 @@ use crate::outside::say_change;
 use esr_dirdepot::DirDepot;
 use esr_scenes::{Scene, Subject, Tally, cut, say, say_number};
 use std::alloc::{AllocError, Global};
+use std::fs::File;
+use std::rt::Files;
 use std::{fs, io};
 
 /// The folder in which scenes are played. It is absent when one begins.
@@ -56,12 +58,21 @@ fn counts_of<C: Calls>(alloc: Global, mut depot: C, lines: &str) -> Counts {
     (first, count, failures(alloc, &mut depot, lines))
 }
 
+/// The failures of a container on the folder of that path, by these files.
+fn failures_by<R: Files<File = File> + Eprint + Drop>(
+    files: &R,
+    alloc: Global,
+    path: &str,
+    lines: &str,
+) -> Result<Counts, AllocError> {
+    Ok(counts_of(alloc, DirDepot::new(files, alloc, path)?, lines))
+}
+
 /// The failures of a container on a new folder, where that call of the file system fails.
 fn failures_at(rt: &HostRuntime, path: &str, lines: &str, nth: u64) -> Result<Counts, AllocError> {
     let _ = fs::remove_dir_all(rt, FOLDER);
     let files = Failing::new(rt, OneCall::new(nth, false));
-    let depot = DirDepot::new(&files, rt.alloc(), path)?;
-    Ok(counts_of(rt.alloc(), depot, lines))
+    failures_by(&files, rt.alloc(), path, lines)
 }
 
 /// Says how many calls of the file system there are, and that each fails one call of the container, which counts it, and
@@ -90,6 +101,18 @@ fn say_made<C: Calls>(alloc: Global, depot: &mut Option<C>, call: &str, line: &m
     }
 }
 
+/// Makes a call of a container on the folder of that path, which goes then.
+fn say_short<R: Files<File = File> + Eprint + Drop>(
+    files: &R,
+    alloc: Global,
+    path: &str,
+    call: &str,
+    line: &mut String,
+) {
+    let mut depot = DirDepot::new(files, alloc, path).ok();
+    say_made(alloc, &mut depot, call, line);
+}
+
 impl<D: Calls, E: Calls> Subject for Folder<'_, D, E> {
     fn call(&mut self, alloc: Global, call: &str, line: &mut String) {
         let (whose, rest) = cut(call);
@@ -97,7 +120,7 @@ impl<D: Calls, E: Calls> Subject for Folder<'_, D, E> {
             "below" => {}
             "second:" => say_made(alloc, &mut self.second, rest, line),
             "full:" => say_made(alloc, &mut self.full, rest, line),
-            "short:" => say_made(alloc, &mut depot_at(self.rt, self.path), rest, line),
+            "short:" => say_short(self.rt, alloc, self.path, rest, line),
             "outside:" => say_change(self.rt, alloc, self.path, rest, line),
             "each-failure" => say_each_failure(self.rt, self.path, self.lines, line),
             _ => say_made(alloc, &mut self.first, call, line),
@@ -115,43 +138,28 @@ fn below(lines: &str) -> &str {
     ""
 }
 
-/// A container on the folder of that path.
-fn depot_at<'a>(rt: &'a HostRuntime, path: &str) -> Option<DirDepot<'a, HostRuntime>> {
-    DirDepot::new(rt, rt.alloc(), path).ok()
-}
-
-/// Plays a scene over two containers on the folder of that path, and over one whose device is full.
-fn play_over<D: Calls, E: Calls>(
+/// Plays a scene over containers on the folder of that path. `full` are the files of a full device.
+fn play_at<R, F>(
     rt: &HostRuntime,
     scene: Scene<'_>,
     tally: &mut Tally,
     path: &str,
-    two: (Option<D>, Option<D>),
-    full: Option<E>,
-) -> io::Result<()> {
-    let (first, second) = two;
+    files: &R,
+    full: &F,
+) -> io::Result<()>
+where
+    R: Files<File = File> + Eprint + Drop,
+    F: Files<File = File> + Eprint + Drop,
+{
     let folder = Folder {
         rt,
         path,
         lines: scene.lines,
-        first,
-        second,
-        full,
+        first: DirDepot::new(files, rt.alloc(), path).ok(),
+        second: DirDepot::new(files, rt.alloc(), path).ok(),
+        full: DirDepot::new(full, rt.alloc(), path).ok(),
     };
     tally.play_once(rt, rt.alloc(), scene, folder)
-}
-
-/// Plays a scene over containers on the folder of that path. `files` are those of a full device.
-fn play_at(
-    rt: &HostRuntime,
-    scene: Scene<'_>,
-    tally: &mut Tally,
-    path: &str,
-    files: &Failing<'_, OneCall>,
-) -> io::Result<()> {
-    let two = (depot_at(rt, path), depot_at(rt, path));
-    let full = DirDepot::new(files, rt.alloc(), path).ok();
-    play_over(rt, scene, tally, path, two, full)
 }
 
 /// Plays a scene over containers on a new folder.
@@ -163,6 +171,6 @@ pub(crate) fn play_in_folder(
     let _ = fs::remove_dir_all(rt, FOLDER);
     let below = below(scene.lines);
     let path = format!(in rt.alloc(); "{FOLDER}{below}")?;
-    let files = Failing::new(rt, OneCall::new(u64::MAX, true));
-    play_at(rt, scene, tally, path.as_str(), &files)
+    let full = Failing::new(rt, OneCall::new(u64::MAX, true));
+    play_at(rt, scene, tally, path.as_str(), rt, &full)
 }

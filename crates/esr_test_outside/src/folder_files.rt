@@ -2,6 +2,7 @@
 use crate::address::{file_of, words_of};
 use crate::failing::{Failing, OneCall};
 use crate::outside::{say_change, write_file};
+use crate::shaky::Shaky;
 use crate::shards::say_open_shard;
 use crate::targets::say_target;
 use esr_dirsource::{DirSources, DirTargets};
@@ -11,11 +12,12 @@ use std::alloc::{AllocError, Global};
 use std::{fs, io};
 
 /// The folder in which scenes are played. It is empty when one begins.
-pub(crate) const FOLDER: &str = "files";
+const FOLDER: &str = "files";
 
 /// Sources and targets in that folder, and the shard that was opened last. The calls are those of sources and targets in
-/// memory, but for failures; `outside: ..`, which changes the folder; and `each-failure PLACE INDEX NUMBER NAME`, which makes
-/// a file in an empty folder, and so anew for each call of the file system, of which that one fails.
+/// memory, but for failures; `shard PLACE INDEX NUMBER CALL`, which opens a shard and makes that call of it; `outside: ..`, which
+/// changes the folder; and `each-failure PLACE INDEX NUMBER NAME`, which makes a file in an empty folder, and so anew for each call
+/// of the file system, of which that one fails.
 #[derive(Drop)]
 struct FolderFiles<'a, S: Sources, T> {
     rt: &'a HostRuntime,
@@ -25,7 +27,7 @@ struct FolderFiles<'a, S: Sources, T> {
 }
 
 /// The place in the folder. An empty one stays so.
-pub(crate) fn place_in(alloc: Global, place: &str) -> Result<String, AllocError> {
+fn place_in(alloc: Global, place: &str) -> Result<String, AllocError> {
     if place.is_empty() {
         return Ok(String::new(alloc));
     }
@@ -40,7 +42,7 @@ fn write_shard_file(rt: &HostRuntime, place: &str, number: u32, file: &str) -> i
 }
 
 /// Writes the files of a shard.
-pub(crate) fn write_files(rt: &HostRuntime, call: &str) -> io::Result<()> {
+fn write_files(rt: &HostRuntime, call: &str) -> io::Result<()> {
     let words = words_of(call);
     for file in words.rest.split('|') {
         write_shard_file(rt, words.place, words.number, file)?;
@@ -49,7 +51,7 @@ pub(crate) fn write_files(rt: &HostRuntime, call: &str) -> io::Result<()> {
 }
 
 /// Makes a file in a new target.
-pub(crate) fn say_new_target<T: Targets>(
+fn say_new_target<T: Targets>(
     alloc: Global,
     targets: &T,
     verb: &str,
@@ -93,11 +95,15 @@ fn say_each_failure(rt: &HostRuntime, call: &str, line: &mut String) -> io::Resu
 }
 
 impl<S: Sources, T: Targets> FolderFiles<'_, S, T> {
-    fn open(&mut self, alloc: Global, call: &str) -> io::Result<()> {
+    /// Opens a shard, and makes the call of it that stands there, if there is one.
+    fn open(&mut self, alloc: Global, call: &str, line: &mut String) -> io::Result<()> {
         let words = words_of(call);
         let place = place_in(alloc, words.place)?;
         let sources = &self.sources;
         self.shard = Some(sources.shard(alloc, place.as_str(), words.index, words.number)?);
+        if !words.rest.is_empty() {
+            say_open_shard(alloc, &mut self.shard, words.rest, line);
+        }
         Ok(())
     }
 
@@ -106,7 +112,7 @@ impl<S: Sources, T: Targets> FolderFiles<'_, S, T> {
         let (verb, rest) = cut(call);
         match verb {
             "source" => write_files(self.rt, rest),
-            "shard" => self.open(alloc, rest),
+            "shard" => self.open(alloc, rest, line),
             "each-failure" => say_each_failure(self.rt, rest, line),
             _ => say_new_target(alloc, &self.targets, verb, rest, line),
         }
@@ -133,8 +139,18 @@ impl<'a> Subject for FolderFiles<'a, DirSources<'a, HostRuntime>, DirTargets<'a,
     }
 }
 
+/// The files of the runtime, of which some calls fail.
+type ShakyFolder<'a> = Failing<'a, Shaky>;
+
+impl<'a> Subject
+    for FolderFiles<'a, DirSources<'a, ShakyFolder<'a>>, DirTargets<'a, ShakyFolder<'a>>> {
+    fn call(&mut self, alloc: Global, call: &str, line: &mut String) {
+        self.answer(alloc, call, line);
+    }
+}
+
 /// Makes the folder anew.
-pub(crate) fn clear(rt: &HostRuntime) -> io::Result<()> {
+fn clear(rt: &HostRuntime) -> io::Result<()> {
     let _ = fs::remove_dir_all(rt, FOLDER);
     fs::create_dir_all(rt, FOLDER)
 }
@@ -152,6 +168,23 @@ pub(crate) fn play_files_in_folder<'a>(
         rt,
         sources,
         targets,
+        shard: None,
+    };
+    tally.play_once(rt, rt.alloc(), scene, files)
+}
+
+/// Plays a scene over sources and targets in a new folder, of whose files some calls fail.
+pub(crate) fn play_shaky_files(
+    rt: &HostRuntime,
+    scene: Scene<'_>,
+    tally: &mut Tally,
+) -> io::Result<()> {
+    clear(rt)?;
+    let shaky = Failing::new(rt, Shaky);
+    let files = FolderFiles {
+        rt,
+        sources: DirSources::new(&shaky),
+        targets: DirTargets::new(&shaky),
         shard: None,
     };
     tally.play_once(rt, rt.alloc(), scene, files)

@@ -13,19 +13,18 @@ mod mute;
 mod outside;
 mod plan;
 mod shaky;
-mod shaky_files;
 mod shards;
 mod streams;
 mod targets;
 
 use crate::folder::play_in_folder;
-use crate::folder_files::play_files_in_folder;
+use crate::folder_files::{play_files_in_folder, play_shaky_files};
 use crate::memory::Memory;
 use crate::memory_files::MemoryFiles;
 use crate::mute::Mute;
-use crate::shaky_files::play_shaky_files;
 use crate::streams::Streams;
 use esr_scenes::{Player, Scene, Tally, play_scenes};
+use std::alloc::{AllocError, Global};
 use std::io;
 use std::process::ExitCode;
 
@@ -52,18 +51,18 @@ impl Player for Subjects<'_> {
     }
 }
 
-/// A text with one word in the place of another.
-fn with_word(rt: &HostRuntime, text: String, word: &str, new: &str) -> io::Result<String> {
-    Ok(text.as_str().replace(rt.alloc(), word, new)?)
+/// The text in which `\0` is a zero byte, `\d` byte 127, and `<255>` a name of so many bytes.
+fn with_words(alloc: Global, text: &str) -> Result<String, AllocError> {
+    let text = text.replace(alloc, "\\0", "\0")?;
+    let text = text.as_str().replace(alloc, "\\d", "\x7f")?;
+    let long = "x".repeat(alloc, 255)?;
+    text.as_str().replace(alloc, "<255>", long.as_str())
 }
 
-/// The scenes of standard input, in which `\0` is a zero byte, `\d` byte 127, and `<255>` a name of so many bytes.
+/// The scenes of standard input.
 fn scenes(rt: &HostRuntime) -> io::Result<String> {
     let text = io::read_to_string(rt.alloc(), rt.stdin())?;
-    let text = with_word(rt, text, "\\0", "\0")?;
-    let text = with_word(rt, text, "\\d", "\x7f")?;
-    let long = "x".repeat(rt.alloc(), 255)?;
-    with_word(rt, text, "<255>", long.as_str())
+    Ok(with_words(rt.alloc(), text.as_str())?)
 }
 
 fn main(rt: HostRuntime) -> ExitCode {

@@ -11,13 +11,13 @@ use std::rt::Files;
 pub(crate) struct Shaky;
 
 #[derive(Drop)]
-pub(crate) struct ShakyFile<F> {
-    file: F,
+pub(crate) struct ShakyFile {
+    file: File,
     calls: u64,
     has_synced: Cell<bool>,
 }
 
-impl<F> ShakyFile<F> {
+impl ShakyFile {
     /// Counts a call.
     fn call(&mut self) -> io::Result<()> {
         self.calls = self.calls.saturating_add(1);
@@ -29,14 +29,14 @@ impl<F> ShakyFile<F> {
     }
 }
 
-impl<F: Read> Read for ShakyFile<F> {
+impl Read for ShakyFile {
     fn read(&mut self, buf: &mut [u8]) -> io::Result<usize> {
         self.call()?;
         self.file.read(buf)
     }
 }
 
-impl<F: Write> Write for ShakyFile<F> {
+impl Write for ShakyFile {
     fn write(&mut self, buf: &[u8]) -> io::Result<usize> {
         self.call()?;
         self.file.write(&buf[..buf.len().min(1)])
@@ -47,13 +47,13 @@ impl<F: Write> Write for ShakyFile<F> {
     }
 }
 
-impl<F: Seek> Seek for ShakyFile<F> {
+impl Seek for ShakyFile {
     fn seek(&mut self, to: SeekFrom) -> io::Result<u64> {
         self.file.seek(to)
     }
 }
 
-impl<F: OpenFile> OpenFile for ShakyFile<F> {
+impl OpenFile for ShakyFile {
     fn metadata(&self) -> io::Result<Metadata> {
         self.file.metadata()
     }
@@ -76,13 +76,13 @@ impl<F: OpenFile> OpenFile for ShakyFile<F> {
 }
 
 impl Fails for Shaky {
-    type File = ShakyFile<File>;
+    type File = ShakyFile;
 
     fn turn(&self) -> io::Result<()> {
         Ok(())
     }
 
-    fn open(&self, rt: &HostRuntime, how: &OpenOptions, path: &str) -> io::Result<ShakyFile<File>> {
+    fn open(&self, rt: &HostRuntime, how: &OpenOptions, path: &str) -> io::Result<ShakyFile> {
         Ok(ShakyFile {
             file: rt.open_file(how, path)?,
             calls: 0,

@@ -54,7 +54,7 @@ fn say_file<S: Shard>(alloc: Global, shard: &mut S, file: usize, line: &mut Stri
 /// |---|---|---|
 /// | `list` | | names with lengths |
 /// | `read PLACE` | lists, once more if that fails, starts the file at that place of the list, and reads two bytes four times | the list, and each read |
-pub(crate) fn say_shard<S: Shard>(alloc: Global, shard: &mut S, call: &str, line: &mut String) {
+fn say_shard<S: Shard>(alloc: Global, shard: &mut S, call: &str, line: &mut String) {
     match cut(call) {
         ("read", place) => say_file(alloc, shard, place.parse::<usize>().unwrap_or(0), line),
         _ => {

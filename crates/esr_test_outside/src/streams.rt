@@ -115,8 +115,8 @@ fn write_memory(alloc: Global, room: &str, fails: &str, line: &mut String) -> Do
 /// A gate at a point, by its words.
 fn pass_gate(word: &str, line: &mut String) {
     let point = match word {
-        "taken" => Point::Taken { ticket: 1 },
-        _ => Point::Ended { ticket: 1 },
+        "writing" => Point::Writing { ticket: 1 },
+        _ => Point::Written { ticket: 1 },
     };
     NoGate.at(point);
     say(line, "passed");

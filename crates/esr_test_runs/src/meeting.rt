@@ -61,7 +61,6 @@ impl Gate for Meeting {
                     self.others.fetch_add(1, Ordering::SeqCst);
                 }
             }
-            _ => {}
         }
     }
 }

@@ -1,6 +1,6 @@
 //! Lists, bytes and texts, with ample memory.
 use crate::words::{Said, cut, number, say, say_unknown};
-use esr_seq::{Bytes, Seq, Text};
+use esr_seq::{Bytes, Seq, Text, TryClone};
 use std::alloc::{AllocError, Global};
 
 /// Adds two numbers to a list, then three more at its end, and then one before its second.

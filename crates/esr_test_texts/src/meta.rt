@@ -4,7 +4,8 @@ use crate::words::{Said, say, say_unknown, say_written};
 use esr_meta::{
     SnapInfo, global_read, global_text, index_meta_read, index_meta_text, info_read, info_text,
 };
-use esr_names::{IndexRefs, indices_copy};
+use esr_names::IndexRefs;
+use esr_seq::TryClone;
 use std::alloc::Global;
 
 fn say_info_again(alloc: Global, line: &mut String, bytes: &[u8]) -> Said {
@@ -36,7 +37,7 @@ fn say_info(line: &mut String, info: &SnapInfo) {
 /// Says what an info has, with its indices and then their copy.
 fn say_info_fields(alloc: Global, line: &mut String, bytes: &[u8]) -> Said {
     let info = info_read(alloc, bytes)?;
-    let copy = indices_copy(alloc, &info.indices)?;
+    let copy = info.indices.try_clone(alloc)?;
     say_info(line, &info);
     say(line, ", ");
     say_indices(line, &info.indices);

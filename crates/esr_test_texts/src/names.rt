@@ -5,6 +5,7 @@ use esr_names::{
     BlobName, Id, IndexName, IndexNames, IndexRef, NameRefusal, ShardId, SnapName, id_read,
     id_text, is_name, parse_name, print_name,
 };
+use esr_seq::TryClone;
 use std::alloc::Global;
 
 /// Says an id by its term and its counter.

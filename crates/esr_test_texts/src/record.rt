@@ -5,6 +5,7 @@ use esr_names::Id;
 use esr_record::{
     ClusterRecord, Making, OpWork, RecordOp, RecordRefusal, record_read, record_text,
 };
+use esr_seq::TryClone;
 use std::alloc::Global;
 use std::fmt::Display;
 

@@ -1,6 +1,7 @@
 -- One part of a file.
 use Rattle.std.proofs.Common.{◌≡◌, ◌≢◌, ℕ, Bool, true, false, List, [], ◌∷◌, Option, Some, None, Result, Ok, Err, refl, sym, ap, ◌∙◌, subst, if◌then◌else◌}
 use Rattle.std.specs.Io.KnownBytes.{append_known}
+use Rattle.std.proofs.lemmas.Bool.{false≢true}
 use Rattle.esr_names.specs.declared.blob.BlobName.{BlobName as CodeName}
 use Rattle.esr_model.specs.Names.{BlobName, Latest}
 use Rattle.esr_model.specs.Values.{Bytes}
@@ -94,6 +95,17 @@ part_put s left_old left_new before now hasher_old hasher_new old mid new name n
       whole = λ full. (copied.whole full, committed_whole s name now copied.piece c old mid new same holds fresh own);
       short = λ full. copied.short full;
     }
+
+-- the file is at its end before the size is reached
+pub part_short : (s : Start) (left_old left_new before now : Option Bytes) (hasher_old hasher_new : Hasher) (old new : Ticket) (name : BlobName) (size : ℕ) → Copied left_old left_new before now hasher_old hasher_new size false
+    → PutPart s left_old left_new hasher_old hasher_new old new name size false
+part_short s left_old left_new before now hasher_old hasher_new old new name size copied = record {
+  piece = copied.piece;
+  took = copied.took;
+  fed = copied.fed;
+  whole = λ full. absurd (false≢true full);
+  short = copied.short;
+}
 
 pub went_put : (s : Start) (left_old left_new : Option Bytes) (hasher_old hasher_new : Hasher) (old mid new : List Moment) (who : ℕ) (name : BlobName) (size : ℕ) → GrewBy s who old mid → GrewBy s who mid new
     → PutPart s left_old left_new hasher_old hasher_new (ticket_of s old who) (ticket_of s new who) name size true → Went s old new who

@@ -78,6 +78,13 @@ below_new s told index number id e reused old new none same below stored =
     let le : e.name.number + 1 ≤ id + is_new reused = omega (arith, same, one) in
     are_below_later new (e.name.number + 1) (id + is_new reused) le (below_next s index number (entry_of e) stored.bytes old new was stored.is)
 
+-- a file that is reused takes no id
+pub below_reused : (t : Ticket) (id : ℕ) (e : CodeEntry) (reused : Option CodeEntry) → reused ≡ Some e → AreBelow t id → AreBelow t (id + is_new reused)
+below_reused t id e reused some below =
+    let none : is_new reused ≡ 0 = ap is_new some in
+    let same : id ≡ id + is_new reused = omega (arith, none) in
+    subst (λ (n : ℕ). AreBelow t n) same below
+
 -- ---- the snapshot and the index
 
 -- after the snapshot's blob an index is not noted

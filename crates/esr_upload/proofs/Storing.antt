@@ -3,6 +3,7 @@ use Rattle.std.proofs.Common.{◌≡◌, ℕ, zero, suc, ◌+◌, ◌<◌, ◌�
 use Rattle.std.specs.List.{AllByRecursion}
 use Rattle.std.proofs.lemmas.List.{map-append, take_all}
 use Rattle.esr_hash.specs.declared.print.Print.{Print}
+use Rattle.esr_hash.specs.Prints.{print_of}
 use Rattle.esr_model.specs.Names.{BlobName}
 use Rattle.esr_model.specs.Values.{Bytes}
 use Rattle.esr_core.specs.World.{Ticket}
@@ -15,10 +16,38 @@ use Rattle.esr_reuse.specs.Plans.{file_planned}
 use Rattle.esr_desk.specs.Start.{Start}
 use Rattle.esr_desk.specs.Taken.{after_writes}
 use Rattle.esr_upload.specs.Surveyed.{printed, TellsAll, IsShort}
+use Rattle.esr_upload.specs.Stored.{HasPrint, Stored}
 use Rattle.esr_upload.specs.Entries.{new_count, entry_at, entries_at, blobs_at, all_blobs, ReadOnce, Reads, StoredOne, StoredAll}
 use Rattle.esr_upload.proofs.Planning.{take_next, entries_more, blobs_more}
 use Rattle.esr_upload.proofs.Modelled.{as_many}
 use Rattle.esr_upload.proofs.Writing.{writes_on}
+
+-- ---- one file
+
+pub has_print : (told : Option Bytes) (print : Print) (e : CodeEntry) → e.print ≡ print → ReadOnce told print → HasPrint told e
+has_print None print e same read = tt
+has_print (Some bytes) print e same read = ap print_of read.tells ∙ read.print_is ∙ sym same
+
+-- a file that reuses nothing
+pub stored_new : (s : Start) (told : Option Bytes) (index number : ℕ) (p : Planned) (e : CodeEntry) (old new : Ticket) → p.reused ≡ None → e.print ≡ p.print → Stored s told index number e old new
+    → StoredOne s told index number p e old new
+stored_new s told index number p e old new none same stored = record {
+  bytes = stored.bytes;
+  tells = stored.tells;
+  print_is = stored.print ∙ same;
+  is = stored.is ∙ ap (λ (o : Option CodeEntry). after_writes s (blobs_at index number e stored.bytes o) old) (sym none);
+}
+
+-- a file that is reused
+pub stored_reused : (s : Start) (told : Option Bytes) (index number : ℕ) (p : Planned) (reused e : CodeEntry) (t : Ticket) → p.reused ≡ Some reused → ReadOnce told p.print → StoredOne s told index number p e t t
+stored_reused s told index number p reused e t some read = record {
+  bytes = read.bytes;
+  tells = read.tells;
+  print_is = read.print_is;
+  is = ap (λ (o : Option CodeEntry). after_writes s (blobs_at index number e read.bytes o) t) (sym some);
+}
+
+-- ---- one file more
 
 -- the file at a place, for which this was planned
 pub record NextFile (fs : List (Bytes × Bytes)) (i : ℕ) (p : Planned) : Type 0 where

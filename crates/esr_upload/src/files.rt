@@ -17,7 +17,7 @@ use crate::job::Job;
 use esr_desk::Desk;
 use esr_names::Id;
 use esr_reuse::Planned;
-use esr_seq::Seq;
+use esr_seq::{Seq, TryClone};
 use esr_shardidx::{FileEntries, FileEntry};
 use esr_source::{Gate, Shard};
 use esr_unit::Trouble;

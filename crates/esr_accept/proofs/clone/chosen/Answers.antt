@@ -8,10 +8,10 @@ use Rattle.esr_accept.proofs.clone.chosen.Goals as goal
 
 pub returns-then-takes_all-clause-chosen : goal.returns-then-takes_all-clause-chosen
 returns-then-takes_all-clause-chosen c =
-    ok_maps c.indices_copy.result c.indices_copy.ensures (λ refs e. ap (λ (rs : List CodeRef). map ref_of_code rs) e ∙ all_taken (map ref_of_code c.args.all.now) c.args.names.now (sym c.takes_all.ensures ∙ c.if-takes_all.true))
+    ok_maps c.try_clone.result c.try_clone.ensures (λ refs e. ap (λ (rs : List CodeRef). map ref_of_code rs) e ∙ all_taken (map ref_of_code c.args.all.now) c.args.names.now (sym c.takes_all.ensures ∙ c.if-takes_all.true))
 
 pub returns-then-takes_all-clause-apart : goal.returns-then-takes_all-clause-apart
-returns-then-takes_all-clause-apart c = ok_maps c.indices_copy.result c.indices_copy.ensures (λ refs e. subst (λ (rs : List CodeRef). AreApart (map ref_of_code rs)) (sym e) c.requires.apart)
+returns-then-takes_all-clause-apart c = ok_maps c.try_clone.result c.try_clone.ensures (λ refs e. subst (λ (rs : List CodeRef). AreApart (map ref_of_code rs)) (sym e) c.requires.apart)
 
 pub returns-clause-chosen : goal.returns-clause-chosen
 returns-clause-chosen c =

@@ -28,3 +28,8 @@ pub elected-renewed-requires-clause-room : goal.elected-renewed-requires-clause-
 elected-renewed-requires-clause-room g c =
     elect_room c.in_ok-cluster.cluster c.in-Ok.term c.in-Ok.ensures.answer
     (subst (λ (n : ℕ). n < 2 ^ 63) (c.term-term.ensures.term ∙ sym (ap (λ (r : ClusterRecord). r.ledger.term) (ap cluster_of c.in_ok-cluster.ensures ∙ c.record.ensures.record))) c.term-term.ensures.most)
+
+pub returns-clause-range : goal.returns-clause-range
+returns-clause-range g c =
+    elect_room c.in_ok-cluster.cluster c.in-Ok.term c.in-Ok.ensures.answer
+    (subst (λ (n : ℕ). n < 2 ^ 63) (c.term-term.ensures.term ∙ sym (ap (λ (r : ClusterRecord). r.ledger.term) (ap cluster_of c.in_ok-cluster.ensures ∙ c.record.ensures.record))) c.term-term.ensures.most)

@@ -15,10 +15,10 @@ unreachable-requires g c =
 
 pub returns-clause-indices : goal.returns-clause-indices
 returns-clause-indices g c =
-    ok_so c.indices_copy.result c.info.inside.indices
-    (λ (indices : List IndexRef). HasIndices (formats_of g.K.Told.start) (world_of g.K.Told.start c.args.repo.now) g.K.Told.start.tells c.args.uuid.number (map ref_of_code indices)) c.indices_copy.ensures
+    ok_so c.try_clone.result c.info.inside.indices
+    (λ (indices : List IndexRef). HasIndices (formats_of g.K.Told.start) (world_of g.K.Told.start c.args.repo.now) g.K.Told.start.tells c.args.uuid.number (map ref_of_code indices)) c.try_clone.ensures
     (subst (λ (i : Info). HasIndices (formats_of g.K.Told.start) (world_of g.K.Told.start c.args.repo.now) g.K.Told.start.tells c.args.uuid.number (map ref_of_code i.indices)) (sym c.info.view_is)
     (found_indices g.K.Told.start (world_of g.K.Told.start c.args.repo.now) c.infos.result.now c.args.uuid.number c.in-Some.info.now c.infos.ensures (sym c.info_of.ensures ∙ ap option_copied c.in-Some.is)))
 
 pub returns-clause-apart : goal.returns-clause-apart
-returns-clause-apart g c = ok_so c.indices_copy.result c.info.inside.indices (λ (indices : List IndexRef). AreApart (map ref_of_code indices)) c.indices_copy.ensures (refs_apart c.info.inside.indices c.info.invariant.indices)
+returns-clause-apart g c = ok_so c.try_clone.result c.info.inside.indices (λ (indices : List IndexRef). AreApart (map ref_of_code indices)) c.try_clone.ensures (refs_apart c.info.inside.indices c.info.invariant.indices)

@@ -3,6 +3,8 @@ use Rattle.std.proofs.lemmas.Bool.{eqb-true}
 use Rattle.esr_desk.specs.Start.{ticket_of}
 use Rattle.esr_desk.specs.Grew.{grew_by_none, grew_by_on}
 use Rattle.esr_finish.specs.Runs.{taken_on}
+use Rattle.esr_unit.specs.Refusals.{passed_on}
+use Rattle.esr_delete.specs.Refused.{IsRemovalRefused}
 use Rattle.esr_delete.proofs.Removing.{still_new, still_once, none_removed, more_removed, whole_more, rest_may, rest_layout, all_removed}
 use Rattle.esr_delete.proofs.remove.remove_all.Goals as goal
 
@@ -70,3 +72,10 @@ remove_first-requires-clause-mine g c κs within = taken_on (g.Q.Desk.calls c.ar
 
 pub returns-in_err-count-clause-calls : goal.returns-in_err-count-clause-calls
 returns-in_err-count-clause-calls g c = c.remove_first.ensures.calls ∙ c.loop-rest.invariant.calls
+
+pub returns-in_err-count-clause-refused : goal.returns-in_err-count-clause-refused
+returns-in_err-count-clause-refused g c =
+    passed_on c.from_residual.result (IsRemovalRefused c.args.clean g.Q.Desk.start (g.Q.Desk.seen c.remove_first.new.desk) c.args.ticket) c.in_err-count.field-0.0 c.from_residual.ensures.1 c.in_err-count.ensures.refused
+
+pub remove_first-requires-clause-new : goal.remove_first-requires-clause-new
+remove_first-requires-clause-new g c κs within = c.loop-rest.invariant.new

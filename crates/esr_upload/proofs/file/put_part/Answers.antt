@@ -1,4 +1,5 @@
 use Rattle.std.proofs.Common.{Bool, [], Err, inl, ap, ◌∙◌, subst, List, refl, ◌≡◌, sym}
+use Rattle.std.proofs.lemmas.Bool.{false≢true}
 use Rattle.esr_core.specs.Entry.{BeginStep, CommitStep, WasBegun}
 use Rattle.esr_formats.specs.Names.{name_of}
 use Rattle.esr_parts.specs.Reads.{Copied, is_of_source, is_of_stage}
@@ -15,7 +16,7 @@ use Rattle.esr_core.specs.World.{Ticket}
 use Rattle.esr_upload.specs.Runs.{went_same}
 use Rattle.esr_unit.specs.Objects.{has_risen, is_faulty}
 use Rattle.esr_upload.specs.Ends.{step_shown}
-use Rattle.esr_upload.proofs.FileParts.{begun_is, stage_holds, can_commit, went_refused, not_there, part_put, went_put}
+use Rattle.esr_upload.proofs.FileParts.{begun_is, stage_holds, can_commit, went_refused, not_there, part_put, part_short, went_put}
 use Rattle.esr_names.specs.declared.blob.BlobName.{BlobName as CodeName}
 use Rattle.esr_model.specs.Names.{BlobName}
 use Rattle.esr_desk.specs.Once.{IsFresh}
@@ -63,6 +64,21 @@ returns-in-Err-Source-clause-trouble g c = (
       (ap (λ (e : CopyError). is_of_source {T = Bool} (Err e)) c.in-Err-Source.field-0-is),
   tt,
 )
+
+pub returns-in-Ok-false-clause-put : goal.returns-in-Ok-false-clause-put
+returns-in-Ok-false-clause-put g c =
+    let s = g.Q.Desk.start in
+    let who = c.args.job.now.ticket in
+    let left_old = (g.S.Shard.told c.args.shard.now).left in
+    let left_new = (g.S.Shard.told c.copy_part.new.shard).left in
+    let before = g.Q.Stage.Stage.contents c.in_ok-named.named.stage in
+    let now = g.Q.Stage.Stage.contents c.copy_part.new.stage in
+    part_short s left_old left_new before now c.args.hasher.now c.copy_part.new.hasher (ticket_of s (g.Q.Desk.seen c.args.desk.now) who) (ticket_of s (g.Q.Desk.seen c.begin.new.self) who)
+    (name_of c.args.part.name) c.args.part.size
+    (subst (λ (full : Bool). Copied left_old left_new before now c.args.hasher.now c.copy_part.new.hasher c.args.part.size full) c.in-Ok-false.field-0-test c.in-Ok-false.ensures.copied)
+
+pub returns-in-Ok-false-clause-tells : goal.returns-in-Ok-false-clause-tells
+returns-in-Ok-false-clause-tells g c = λ full. absurd (false≢true full)
 
 pub returns-in-Ok-false-clause-went : goal.returns-in-Ok-false-clause-went
 returns-in-Ok-false-clause-went g c =

@@ -16,4 +16,4 @@ returns c =
     let sums = c.sums-files.ensures ∙ ap (λ (rs : List CodeResult). (min (sum_by (λ (r : CodeResult). r.files) rs) (2 ^ 63 - 1), min (sum_by (λ (r : CodeResult). r.bytes) rs) (2 ^ 63 - 1))) c.as_slice.ensures in
     rw (← c.self.view_is)
     (final_work c.self.inside.making c.self.inside.places c.self.inside.shards.items c.self.inside.failed c.self.inside.source c.self.inside.aborted
-    c.in_ok-shards.shards _ c.sums-files.result results done sums refl refl c.in_ok-indices_copy.ensures refl c.in_ok-try_clone.ensures refl refl)
+    c.in_ok-shards.shards _ c.sums-files.result results done sums refl refl c.in_ok-try_clone.ensures refl c.in_ok-try_clone-2.ensures refl refl)

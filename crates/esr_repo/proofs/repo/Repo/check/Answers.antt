@@ -1,10 +1,11 @@
-use Rattle.std.proofs.Common.{◌≡◌, ℕ, List, Option, refl, sym, ◌∙◌, le_refl}
+use Rattle.std.proofs.Common.{◌≡◌, ℕ, List, Option, refl, sym, ap, ◌∙◌, le_refl}
 use Rattle.esr_core.specs.Entry.{Entry, Step, Refused, Moment}
 use Rattle.esr_ops.specs.Plan.{Plan}
-use Rattle.esr_desk.specs.Start.{Start}
-use Rattle.esr_desk.specs.Own.{own_of}
+use Rattle.esr_desk.specs.Start.{Start, ticket_of}
+use Rattle.esr_desk.specs.Own.{own_of, reader_of, caller_of}
 use Rattle.esr_desk.specs.declared.refusal.EntryRefusal.{EntryRefusal}
 use Rattle.esr_repo.specs.Next.{Added}
+use Rattle.esr_repo.specs.Log.{log_of}
 use Rattle.esr_desk.specs.Entries.{step_of}
 use Rattle.esr_desk.specs.Refusals.{refusal_of}
 use Rattle.esr_repo.specs.Repo.{Kept}
@@ -31,6 +32,18 @@ returns-in_default-clause-goes g c =
     let k : Kept = record { cluster = c.self.inside.cluster; root = c.self.inside.root; infos = c.self.inside.infos.items; plan = c.self.inside.progress; next = c.self.inside.next.number } in
     (free_goes (g.D.Depot.look c.self.inside.depot) g.K.Told.start g.K.Told.clock c.self.inside.history.items k c.self.inside.deposed c.args.self.now c.self.invariant.0.repo c.self.view_is c.args.who
     (step_of c.args.step) (sym c.block.ensures ∙ c.in_default.is) c.requires.fresh c.requires.own).1
+
+pub returns-then-is_err-clause-own : goal.returns-then-is_err-clause-own
+returns-then-is_err-clause-own g c = λ k. ap (λ (log : List Moment). own_of g.K.Told.start log k) (ap (log_of (g.D.Depot.look c.self.inside.depot) g.K.Told.clock) c.reserve.ensures.items ∙ c.self.view_is)
+
+pub returns-then-is_err-clause-kept : goal.returns-then-is_err-clause-kept
+returns-then-is_err-clause-kept g c = λ k. ap (λ (log : List Moment). ticket_of g.K.Told.start log k) (ap (log_of (g.D.Depot.look c.self.inside.depot) g.K.Told.clock) c.reserve.ensures.items ∙ c.self.view_is)
+
+pub returns-then-is_err-clause-readers : goal.returns-then-is_err-clause-readers
+returns-then-is_err-clause-readers g c = λ k. ap (λ (log : List Moment). reader_of g.K.Told.start log k) (ap (log_of (g.D.Depot.look c.self.inside.depot) g.K.Told.clock) c.reserve.ensures.items ∙ c.self.view_is)
+
+pub returns-then-is_err-clause-caller : goal.returns-then-is_err-clause-caller
+returns-then-is_err-clause-caller g c = ap (λ (log : List Moment). caller_of g.K.Told.start log) (ap (log_of (g.D.Depot.look c.self.inside.depot) g.K.Told.clock) c.reserve.ensures.items ∙ c.self.view_is)
 
 pub invariant_of-self-2 : goal.invariant_of-self-2
 invariant_of-self-2 g c =

@@ -26,5 +26,5 @@ invariant_of-result c =
     let files : c.from_vec.result ≡ insert_files c.args.self.now.files c.args.snap.now.files =
     c.from_vec.ensures ∙ c.in_ok-files.ensures ∙ ap (λ (es : List FileEntry). insert_files es c.files-2.result.now) c.files.ensures.files ∙ ap (insert_files c.args.self.now.files) c.files-2.ensures.files in
     let lists : c.push.new.self ≡ c.args.self.now.snapshots ++ list_of_snap c.args.snap.now ∷ [] = c.in_ok-push.ensures.ok
-    ∙ ap (λ (ls : List SnapList). ls ++ c.in_ok-list_of_snap.field-0 ∷ []) (c.in_ok-snapshots.ensures ∙ c.snapshots-2.ensures) ∙ ap (λ (l : SnapList). c.args.self.now.snapshots ++ l ∷ []) c.in_ok-list_of_snap.ensures in
+    ∙ ap (λ (ls : List SnapList). ls ++ c.in_ok-list_of_snap.field-0 ∷ []) (c.from_vec-snapshots.ensures ∙ c.in_ok-copies_of.ensures ∙ c.snapshots-2.ensures) ∙ ap (λ (l : SnapList). c.args.self.now.snapshots ++ l ∷ []) c.in_ok-list_of_snap.ensures in
     rw (files, lists) all

@@ -1,8 +1,9 @@
 use Rattle.esr_solo.proofs.Stepping.{keeps, outcome, spent, is_short, turns_left}
-use Rattle.esr_core.specs.Entry.{ReadStep, BeginTest}
+use Rattle.esr_core.specs.Entry.{ReadStep, BeginTest, Moment}
 use Rattle.esr_formats.specs.Names.{name_of}
-use Rattle.std.proofs.Common.{◌≡◌, ◌<◌, ◌^◌, length, true, IsTrue, refl}
+use Rattle.std.proofs.Common.{◌≡◌, ◌<◌, ◌^◌, length, true, IsTrue, refl, List, sym, subst}
 use Rattle.esr_solo.proofs.Calls.{calls_client}
+use Rattle.esr_desk.specs.Once.{IsFresh}
 use Rattle.esr_solo.proofs.client.SoloClient.begin_test.Goals as goal
 
 pub returns-then-self-eq0-clause-step : goal.returns-then-self-eq0-clause-step
@@ -23,3 +24,6 @@ returns-clause-calls g c = calls_client g.K.Told.start c.self.inside.repo c.args
 pub returns-clause-sure : goal.returns-clause-sure
 returns-clause-sure g c = turns_left c.begin_test-answer.result (g.K.Told.start.quiet ≡ true) (length c.self.inside.repo < 2 ^ 41)
     (λ s. IsTrue (g.D.Stage.Stage.is_sure s.stage)) (is_short c.self.inside.repo c.self.inside.left c.self.invariant.0 c.if-self-eq0.false) c.begin_test-answer.ensures.sure
+
+pub begin_test-answer-requires-clause-new : goal.begin_test-answer-requires-clause-new
+begin_test-answer-requires-clause-new g c = subst (λ (log : List Moment). IsFresh g.K.Told.start log 0 (ReadStep (BeginTest (name_of c.args.blob.name)))) (sym c.self.view_is) c.requires.new

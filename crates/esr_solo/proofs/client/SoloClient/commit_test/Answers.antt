@@ -1,10 +1,11 @@
-use Rattle.std.proofs.Common.{refl}
+use Rattle.std.proofs.Common.{refl, List, sym, subst}
 use Rattle.esr_solo.proofs.Stepping.{keeps, outcome, spent}
-use Rattle.esr_core.specs.Entry.{ReadStep, CommitTest}
+use Rattle.esr_core.specs.Entry.{ReadStep, CommitTest, Moment}
 use Rattle.esr_formats.specs.Names.{name_of}
 use Rattle.esr_names.specs.IdText.{id_text}
 use Rattle.esr_solo.proofs.Testing.{test_new}
 use Rattle.esr_solo.proofs.Calls.{calls_client}
+use Rattle.esr_desk.specs.Once.{IsFresh}
 use Rattle.esr_solo.proofs.client.SoloClient.commit_test.Goals as goal
 
 pub returns-then-self-eq0-clause-step : goal.returns-then-self-eq0-clause-step
@@ -25,3 +26,6 @@ returns-clause-calls g c = calls_client g.K.Told.start c.self.inside.repo c.args
 
 pub commit_test-answer-requires-clause-holds : goal.commit_test-answer-requires-clause-holds
 commit_test-answer-requires-clause-holds g c = (id_text c.requires.holds.0, c.requires.holds.2)
+
+pub commit_test-answer-requires-clause-new : goal.commit_test-answer-requires-clause-new
+commit_test-answer-requires-clause-new g c = subst (λ (log : List Moment). IsFresh g.K.Told.start log 0 (ReadStep (CommitTest (name_of c.args.name)))) (sym c.self.view_is) c.requires.new

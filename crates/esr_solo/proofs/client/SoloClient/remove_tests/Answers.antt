@@ -1,8 +1,9 @@
 use Rattle.esr_solo.proofs.Stepping.{keeps, outcome, spent}
-use Rattle.esr_core.specs.Entry.{ReadStep, RemoveTests}
+use Rattle.esr_core.specs.Entry.{ReadStep, RemoveTests, Moment}
 use Rattle.esr_formats.specs.Names.{name_of}
-use Rattle.std.proofs.Common.{map, refl}
+use Rattle.std.proofs.Common.{map, refl, List, sym, subst}
 use Rattle.esr_solo.proofs.Calls.{calls_client}
+use Rattle.esr_desk.specs.Once.{IsFresh}
 use Rattle.esr_solo.proofs.client.SoloClient.remove_tests.Goals as goal
 
 pub returns-then-self-eq0-clause-step : goal.returns-then-self-eq0-clause-step
@@ -20,3 +21,6 @@ returns-clause-step g c = outcome g.K.Told.start c.self.inside.repo c.args.self.
 pub returns-clause-calls : goal.returns-clause-calls
 returns-clause-calls g c =
     calls_client g.K.Told.start c.self.inside.repo c.args.self.now c.remove_tests-answer.new.repo (ReadStep (RemoveTests (map name_of c.args.names.now))) _ c.remove_tests-answer.result c.self.view_is c.remove_tests-answer.ensures.step
+
+pub remove_tests-answer-requires-clause-new : goal.remove_tests-answer-requires-clause-new
+remove_tests-answer-requires-clause-new g c = subst (λ (log : List Moment). IsFresh g.K.Told.start log 0 (ReadStep (RemoveTests (map name_of c.args.names.now)))) (sym c.self.view_is) c.requires.new

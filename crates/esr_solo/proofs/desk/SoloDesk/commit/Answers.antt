@@ -1,9 +1,11 @@
+use Rattle.std.proofs.Common.{List, sym, subst}
 use Rattle.esr_solo.proofs.Stepping.{keeps, outcome, spent}
-use Rattle.esr_core.specs.Entry.{CommitStep}
+use Rattle.esr_core.specs.Entry.{CommitStep, Moment}
 use Rattle.esr_formats.specs.Names.{name_of}
 use Rattle.esr_desk.specs.Outcome.{commit_reply}
 use Rattle.esr_solo.proofs.Committing.{commit_fresh, no_end_of}
 use Rattle.esr_solo.proofs.Calls.{calls_ticket}
+use Rattle.esr_desk.specs.Once.{IsFresh}
 use Rattle.esr_solo.proofs.desk.SoloDesk.commit.Goals as goal
 
 pub returns-then-self-eq0-clause-step : goal.returns-then-self-eq0-clause-step
@@ -22,3 +24,6 @@ returns-clause-step g c = outcome g.K.Told.start c.self.inside.repo c.args.self.
 pub returns-clause-calls : goal.returns-clause-calls
 returns-clause-calls g c =
     calls_ticket g.K.Told.start c.self.inside.repo c.args.self.now c.commit-answer.new.repo c.args.ticket (CommitStep (name_of c.args.name)) commit_reply c.commit-answer.result c.self.view_is c.requires.mine.some c.commit-answer.ensures.step
+
+pub commit-answer-requires-clause-new : goal.commit-answer-requires-clause-new
+commit-answer-requires-clause-new g c = subst (λ (log : List Moment). IsFresh g.K.Told.start log c.args.ticket (CommitStep (name_of c.args.name))) (sym c.self.view_is) c.requires.new

@@ -1,7 +1,8 @@
-use Rattle.std.proofs.Common.{refl}
+use Rattle.std.proofs.Common.{refl, List, sym, subst}
 use Rattle.esr_solo.proofs.Stepping.{keeps, outcome, spent}
-use Rattle.esr_core.specs.Entry.{DroppedStep}
+use Rattle.esr_core.specs.Entry.{DroppedStep, Moment}
 use Rattle.esr_solo.proofs.Calls.{calls_ticket}
+use Rattle.esr_desk.specs.Once.{IsFresh}
 use Rattle.esr_solo.proofs.desk.SoloDesk.end_drop.Goals as goal
 
 pub returns-then-self-eq0-clause-step : goal.returns-then-self-eq0-clause-step
@@ -18,3 +19,6 @@ returns-clause-step g c = outcome g.K.Told.start c.self.inside.repo c.args.self.
 
 pub returns-clause-calls : goal.returns-clause-calls
 returns-clause-calls g c = calls_ticket g.K.Told.start c.self.inside.repo c.args.self.now c.end_drop-answer.new.repo c.args.ticket DroppedStep _ c.end_drop-answer.result c.self.view_is c.requires.mine.some c.end_drop-answer.ensures.step
+
+pub end_drop-answer-requires-clause-new : goal.end_drop-answer-requires-clause-new
+end_drop-answer-requires-clause-new g c = subst (λ (log : List Moment). IsFresh g.K.Told.start log c.args.ticket DroppedStep) (sym c.self.view_is) c.requires.new

@@ -1,8 +1,9 @@
-use Rattle.std.proofs.Common.{◌≡◌, false, List, Result, OnOk, OnErr, sym, subst}
+use Rattle.std.proofs.Common.{◌≡◌, false, List, Result, OnOk, OnErr, ap, sym, subst}
 use Rattle.esr_core.specs.Entry.{ReadStep, RestoredShard, HasEnded, Moment}
 use Rattle.esr_desk.specs.declared.refusal.StepRefusal.{StepRefusal}
 use Rattle.esr_desk.specs.Outcome.{Outcome}
 use Rattle.esr_desk.specs.Own.{reader_of}
+use Rattle.esr_desk.specs.Calls.{calls_at}
 use Rattle.esr_solo.proofs.Listing.{same_targets, ok_listed, err_listed}
 use Rattle.esr_solo.proofs.Calls.{calls_ticket}
 use Rattle.esr_solo.proofs.Stepping.{waited_as, outcome, spent, keeps_target}
@@ -13,6 +14,12 @@ returns-then-self-eq0-clause-step g c = spent g.K.Told.start c.self.inside.repo 
 
 pub returns-then-is_err-clause-step : goal.returns-then-is_err-clause-step
 returns-then-is_err-clause-step g c = (waited_as g.K.Told.start c.self.inside.repo c.args.self.now c.args.done.ticket c.self.view_is c.self.invariant.8, tt)
+
+pub returns-then-is_err-clause-kept : goal.returns-then-is_err-clause-kept
+returns-then-is_err-clause-kept g c = ap (λ (log : List Moment). reader_of g.K.Told.start log c.args.done.ticket) c.self.view_is
+
+pub returns-then-is_err-clause-calls : goal.returns-then-is_err-clause-calls
+returns-then-is_err-clause-calls g c = ap (calls_at 0) c.self.view_is
 
 pub invariant_of-self : goal.invariant_of-self
 invariant_of-self g c = (
@@ -49,6 +56,9 @@ pub returns-clause-kept : goal.returns-clause-kept
 returns-clause-kept g c =
     err_listed c.list.result c.end_restore-answer.result (reader_of g.K.Told.start c.end_restore-answer.new.repo c.args.done.ticket ≡ reader_of g.K.Told.start c.args.self.now c.args.done.ticket) c.list.ensures.answer
     (subst (λ (log : List Moment). OnErr c.end_restore-answer.result (reader_of g.K.Told.start c.end_restore-answer.new.repo c.args.done.ticket ≡ reader_of g.K.Told.start log c.args.done.ticket)) c.self.view_is c.end_restore-answer.ensures.kept)
+
+pub returns-clause-target : goal.returns-clause-target
+returns-clause-target g c = c.list.ensures.target
 
 pub returns-clause-calls : goal.returns-clause-calls
 returns-clause-calls g c = calls_ticket g.K.Told.start c.self.inside.repo c.args.self.now c.end_restore-answer.new.repo c.args.done.ticket

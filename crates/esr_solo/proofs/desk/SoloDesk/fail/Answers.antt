@@ -1,8 +1,9 @@
-use Rattle.std.proofs.Common.{ap, ◌∙◌}
-use Rattle.esr_core.specs.Entry.{HasEnded}
+use Rattle.std.proofs.Common.{◌≡◌, List, OnOk, OnErr, ap, ◌∙◌, subst}
+use Rattle.esr_core.specs.Entry.{HasEnded, Moment}
 use Rattle.esr_desk.specs.Entries.{why_of}
 use Rattle.esr_desk.specs.Calls.{calls_at}
-use Rattle.esr_desk.specs.Hands.{fail_step}
+use Rattle.esr_desk.specs.Own.{own_of}
+use Rattle.esr_desk.specs.Hands.{fail_step, own_failed}
 use Rattle.esr_solo.proofs.Showing.{same_objects}
 use Rattle.esr_solo.proofs.Calls.{calls_hand, calls_same, calls_wanting}
 use Rattle.esr_solo.proofs.Stepping.{waited_as, outcome, spent, keeps_report, teller_is}
@@ -48,3 +49,16 @@ returns-clause-step g c =
 pub returns-clause-calls : goal.returns-clause-calls
 returns-clause-calls g c = calls_hand c.args.failure.who.hand g.K.Told.start c.self.inside.repo c.args.self.now c.fail-answer.new.repo c.args.failure.who.number
     (fail_step c.args.failure.who.hand (why_of c.args.failure.why)) (λ _. HasEnded) c.fail-answer.result c.self.view_is c.requires.mine c.fail-answer.ensures.step
+
+pub returns-then-is_err-clause-kept : goal.returns-then-is_err-clause-kept
+returns-then-is_err-clause-kept g c = ap (λ (log : List Moment). own_of g.K.Told.start log c.args.failure.who.number) c.self.view_is
+
+pub returns-clause-own : goal.returns-clause-own
+returns-clause-own g c =
+    subst (λ (log : List Moment). OnOk c.fail-answer.result (own_of g.K.Told.start c.fail-answer.new.repo c.args.failure.who.number ≡ own_failed c.args.failure.who.hand (own_of g.K.Told.start log c.args.failure.who.number)))
+    c.self.view_is c.fail-answer.ensures.own
+
+pub returns-clause-kept : goal.returns-clause-kept
+returns-clause-kept g c =
+    subst (λ (log : List Moment). OnErr c.fail-answer.result (own_of g.K.Told.start c.fail-answer.new.repo c.args.failure.who.number ≡ own_of g.K.Told.start log c.args.failure.who.number))
+    c.self.view_is c.fail-answer.ensures.kept

@@ -1,7 +1,8 @@
-use Rattle.std.proofs.Common.{refl}
+use Rattle.std.proofs.Common.{refl, List, sym, subst}
 use Rattle.esr_solo.proofs.Stepping.{keeps, outcome, spent}
-use Rattle.esr_core.specs.Entry.{LatestStep}
+use Rattle.esr_core.specs.Entry.{LatestStep, Moment}
 use Rattle.esr_solo.proofs.Calls.{calls_ticket}
+use Rattle.esr_desk.specs.Once.{IsFresh}
 use Rattle.esr_solo.proofs.desk.SoloDesk.latest.Goals as goal
 
 pub returns-then-self-eq0-clause-step : goal.returns-then-self-eq0-clause-step
@@ -18,3 +19,6 @@ returns-clause-step g c = outcome g.K.Told.start c.self.inside.repo c.args.self.
 
 pub returns-clause-calls : goal.returns-clause-calls
 returns-clause-calls g c = calls_ticket g.K.Told.start c.self.inside.repo c.args.self.now c.latest-answer.new.repo c.args.ticket LatestStep _ c.latest-answer.result c.self.view_is c.requires.mine.some c.latest-answer.ensures.step
+
+pub latest-answer-requires-clause-new : goal.latest-answer-requires-clause-new
+latest-answer-requires-clause-new g c = subst (λ (log : List Moment). IsFresh g.K.Told.start log c.args.ticket LatestStep) (sym c.self.view_is) c.requires.new

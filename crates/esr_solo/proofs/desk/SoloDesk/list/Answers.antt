@@ -1,7 +1,8 @@
 use Rattle.esr_solo.proofs.Stepping.{keeps, outcome, spent}
-use Rattle.esr_core.specs.Entry.{ListStep}
-use Rattle.std.proofs.Common.{option_copied, refl}
+use Rattle.esr_core.specs.Entry.{ListStep, Moment}
+use Rattle.std.proofs.Common.{option_copied, refl, List, sym, subst}
 use Rattle.esr_solo.proofs.Calls.{calls_ticket}
+use Rattle.esr_desk.specs.Once.{IsFresh}
 use Rattle.esr_solo.proofs.desk.SoloDesk.list.Goals as goal
 
 pub returns-then-self-eq0-clause-step : goal.returns-then-self-eq0-clause-step
@@ -19,3 +20,6 @@ returns-clause-step g c = outcome g.K.Told.start c.self.inside.repo c.args.self.
 pub returns-clause-calls : goal.returns-clause-calls
 returns-clause-calls g c =
     calls_ticket g.K.Told.start c.self.inside.repo c.args.self.now c.list-answer.new.repo c.args.ticket (ListStep (option_copied c.args.after)) _ c.list-answer.result c.self.view_is c.requires.mine.some c.list-answer.ensures.step
+
+pub list-answer-requires-clause-new : goal.list-answer-requires-clause-new
+list-answer-requires-clause-new g c = subst (λ (log : List Moment). IsFresh g.K.Told.start log c.args.ticket (ListStep (option_copied c.args.after))) (sym c.self.view_is) c.requires.new

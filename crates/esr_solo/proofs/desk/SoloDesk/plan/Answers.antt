@@ -1,8 +1,9 @@
 use Rattle.esr_solo.proofs.Stepping.{keeps, outcome, spent}
-use Rattle.esr_core.specs.Entry.{PruneStep, PlanShards}
+use Rattle.esr_core.specs.Entry.{PruneStep, PlanShards, Moment}
 use Rattle.esr_results.specs.Pruned.{pruned_of}
-use Rattle.std.proofs.Common.{map, refl}
+use Rattle.std.proofs.Common.{map, refl, List, sym, subst}
 use Rattle.esr_solo.proofs.Calls.{calls_ticket}
+use Rattle.esr_desk.specs.Once.{IsFresh}
 use Rattle.esr_solo.proofs.desk.SoloDesk.plan.Goals as goal
 
 pub returns-then-self-eq0-clause-step : goal.returns-then-self-eq0-clause-step
@@ -21,3 +22,6 @@ returns-clause-step g c = outcome g.K.Told.start c.self.inside.repo c.args.self.
 pub returns-clause-calls : goal.returns-clause-calls
 returns-clause-calls g c = calls_ticket g.K.Told.start c.self.inside.repo c.args.self.now c.plan_delete-answer.new.repo c.args.ticket
     (PruneStep (PlanShards (map pruned_of c.args.basis.now.shards.now))) _ c.plan_delete-answer.result c.self.view_is c.requires.mine.some c.plan_delete-answer.ensures.step
+
+pub plan_delete-answer-requires-clause-new : goal.plan_delete-answer-requires-clause-new
+plan_delete-answer-requires-clause-new g c = subst (λ (log : List Moment). IsFresh g.K.Told.start log c.args.ticket (PruneStep (PlanShards (map pruned_of c.args.basis.now.shards.now)))) (sym c.self.view_is) c.requires.new

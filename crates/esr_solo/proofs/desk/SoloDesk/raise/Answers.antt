@@ -1,7 +1,8 @@
-use Rattle.std.proofs.Common.{refl}
+use Rattle.std.proofs.Common.{refl, List, sym, subst}
 use Rattle.esr_solo.proofs.Stepping.{keeps, outcome, spent}
-use Rattle.esr_core.specs.Entry.{RaiseStep}
+use Rattle.esr_core.specs.Entry.{RaiseStep, Moment}
 use Rattle.esr_solo.proofs.Calls.{calls_ticket}
+use Rattle.esr_desk.specs.Once.{IsFresh}
 use Rattle.esr_solo.proofs.desk.SoloDesk.raise.Goals as goal
 
 pub returns-then-self-eq0-clause-step : goal.returns-then-self-eq0-clause-step
@@ -18,3 +19,6 @@ returns-clause-step g c = outcome g.K.Told.start c.self.inside.repo c.args.self.
 
 pub returns-clause-calls : goal.returns-clause-calls
 returns-clause-calls g c = calls_ticket g.K.Told.start c.self.inside.repo c.args.self.now c.raise-answer.new.repo c.args.ticket RaiseStep _ c.raise-answer.result c.self.view_is c.requires.mine.some c.raise-answer.ensures.step
+
+pub raise-answer-requires-clause-new : goal.raise-answer-requires-clause-new
+raise-answer-requires-clause-new g c = subst (λ (log : List Moment). IsFresh g.K.Told.start log c.args.ticket RaiseStep) (sym c.self.view_is) c.requires.new

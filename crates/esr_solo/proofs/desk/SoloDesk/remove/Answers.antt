@@ -1,9 +1,10 @@
 use Rattle.esr_solo.proofs.Stepping.{keeps, outcome, spent}
-use Rattle.esr_core.specs.Entry.{PruneStep, RemoveDoomed}
+use Rattle.esr_core.specs.Entry.{PruneStep, RemoveDoomed, Moment}
 use Rattle.esr_formats.specs.Names.{name_of}
-use Rattle.std.proofs.Common.{map, refl}
+use Rattle.std.proofs.Common.{map, refl, List, sym, subst}
 use Rattle.esr_solo.proofs.Removing.{removal_new}
 use Rattle.esr_solo.proofs.Calls.{calls_ticket}
+use Rattle.esr_desk.specs.Once.{IsFresh}
 use Rattle.esr_solo.proofs.desk.SoloDesk.remove.Goals as goal
 
 pub returns-then-self-eq0-clause-step : goal.returns-then-self-eq0-clause-step
@@ -22,3 +23,6 @@ returns-clause-step g c = outcome g.K.Told.start c.self.inside.repo c.args.self.
 pub returns-clause-calls : goal.returns-clause-calls
 returns-clause-calls g c = calls_ticket g.K.Told.start c.self.inside.repo c.args.self.now c.remove-answer.new.repo c.args.ticket
     (PruneStep (RemoveDoomed (map name_of c.args.names.now))) _ c.remove-answer.result c.self.view_is c.requires.mine.some c.remove-answer.ensures.step
+
+pub remove-answer-requires-clause-new : goal.remove-answer-requires-clause-new
+remove-answer-requires-clause-new g c = subst (λ (log : List Moment). IsFresh g.K.Told.start log c.args.ticket (PruneStep (RemoveDoomed (map name_of c.args.names.now)))) (sym c.self.view_is) c.requires.new

@@ -1,7 +1,10 @@
-use Rattle.std.proofs.Common.{refl}
+use Rattle.std.proofs.Common.{refl, List, sym, subst}
 use Rattle.esr_solo.proofs.Stepping.{keeps, outcome, spent}
-use Rattle.esr_core.specs.Entry.{SettleStep}
+use Rattle.esr_core.specs.Entry.{SettleStep, Moment}
 use Rattle.esr_solo.proofs.Calls.{calls_ticket}
+use Rattle.esr_desk.specs.Start.{ticket_of}
+use Rattle.esr_desk.specs.Conditions.{IsUnpruned}
+use Rattle.esr_desk.specs.Once.{IsFresh}
 use Rattle.esr_solo.proofs.desk.SoloDesk.settle.Goals as goal
 
 pub returns-then-self-eq0-clause-step : goal.returns-then-self-eq0-clause-step
@@ -18,3 +21,9 @@ returns-clause-step g c = outcome g.K.Told.start c.self.inside.repo c.args.self.
 
 pub returns-clause-calls : goal.returns-clause-calls
 returns-clause-calls g c = calls_ticket g.K.Told.start c.self.inside.repo c.args.self.now c.settle-answer.new.repo c.args.ticket SettleStep _ c.settle-answer.result c.self.view_is c.requires.mine.some c.settle-answer.ensures.step
+
+pub settle-answer-requires-clause-new : goal.settle-answer-requires-clause-new
+settle-answer-requires-clause-new g c = subst (λ (log : List Moment). IsFresh g.K.Told.start log c.args.ticket SettleStep) (sym c.self.view_is) c.requires.new
+
+pub settle-answer-requires-clause-unpruned : goal.settle-answer-requires-clause-unpruned
+settle-answer-requires-clause-unpruned g c = subst (λ (log : List Moment). IsUnpruned (ticket_of g.K.Told.start log c.args.ticket)) (sym c.self.view_is) c.requires.unpruned

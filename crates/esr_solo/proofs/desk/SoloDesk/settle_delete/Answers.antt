@@ -1,7 +1,8 @@
-use Rattle.std.proofs.Common.{refl}
+use Rattle.std.proofs.Common.{refl, List, sym, subst}
 use Rattle.esr_solo.proofs.Stepping.{keeps, outcome, spent}
-use Rattle.esr_core.specs.Entry.{PruneStep, SettlePruned}
+use Rattle.esr_core.specs.Entry.{PruneStep, SettlePruned, Moment}
 use Rattle.esr_solo.proofs.Calls.{calls_ticket}
+use Rattle.esr_desk.specs.Once.{IsFresh}
 use Rattle.esr_solo.proofs.desk.SoloDesk.settle_delete.Goals as goal
 
 pub returns-then-self-eq0-clause-step : goal.returns-then-self-eq0-clause-step
@@ -19,3 +20,6 @@ returns-clause-step g c = outcome g.K.Told.start c.self.inside.repo c.args.self.
 pub returns-clause-calls : goal.returns-clause-calls
 returns-clause-calls g c =
     calls_ticket g.K.Told.start c.self.inside.repo c.args.self.now c.settle_delete-answer.new.repo c.args.ticket (PruneStep SettlePruned) _ c.settle_delete-answer.result c.self.view_is c.requires.mine.some c.settle_delete-answer.ensures.step
+
+pub settle_delete-answer-requires-clause-new : goal.settle_delete-answer-requires-clause-new
+settle_delete-answer-requires-clause-new g c = subst (λ (log : List Moment). IsFresh g.K.Told.start log c.args.ticket (PruneStep SettlePruned)) (sym c.self.view_is) c.requires.new
