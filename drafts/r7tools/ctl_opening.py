@@ -1,0 +1,1 @@
+PLANTS=[("opening::open_in_place","",""),("opening::open_container","","")]

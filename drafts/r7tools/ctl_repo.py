@@ -1,0 +1,1 @@
+PLANTS=[("Repo::ready","","")]
