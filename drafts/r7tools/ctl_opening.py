@@ -1,1 +1,0 @@
-PLANTS=[("opening::open_in_place","",""),("opening::open_container","","")]

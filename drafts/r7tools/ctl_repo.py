@@ -1,1 +1,0 @@
-PLANTS=[("Repo::ready","","")]
